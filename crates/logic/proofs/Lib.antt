@@ -1,0 +1,8 @@
+-- Theorems about the definitions of specs/, a folder a subject.
+pub mod Numbers
+pub mod Pigeonhole
+pub mod Tests
+pub mod Examples
+pub mod Hierarchy
+pub mod Lasso
+pub mod Normal

@@ -1,0 +1,29 @@
+-- Recordings: a word over valuations, finite or looped for ever (an ultimately periodic word, a lasso).
+-- Document 01 calls a valuation a sample and a position a moment.
+use Prim.Native.Nat.{ℕ, zero, suc, _+_, _-_, _/_, _%_, _^_, _<_}
+use mathlib.Core.Bool.{Bool, cond}
+use mathlib.Core.List.{List}
+use lib.ListN.{length, getD}
+use lib.Dec.{ltb, eqb}
+
+-- the valuation at each position, for ever
+abbrev pub Word : Type 0
+Word = ℕ → ℕ
+
+-- whether letter n holds in a sample: bit n - 1, bit 0 the lowest; there is no letter 0
+unfoldable pub letterIn : ℕ → ℕ → Bool
+letterIn v n = eqb (v / 2 ^ (n - 1) % 2) 1
+
+-- at least one sample, and a loop start below their number
+pub record Lasso : Type 0 where
+  pub samples : List ℕ
+  pub start : ℕ
+  pub inside : start < length samples
+
+-- the sample that a position has, with L samples and loop start s: its own below L, and round the loop after that
+unfoldable pub place : ℕ → ℕ → ℕ → ℕ
+place L s i = cond (ltb i L) i (s + (i - s) % (L - s))
+
+-- what a lasso reads as, the endless repeat included
+unfoldable pub word : Lasso → Word
+word r i = getD (r .samples) (place (length (r .samples)) (r .start) i) 0

@@ -1,0 +1,16 @@
+-- The definitions of linear temporal logic that every promise rests on, a file a concept.
+pub mod Formula
+pub mod Lasso
+pub mod Semantics
+pub mod Hierarchy
+pub mod ClassByte
+pub mod NegationNormalForm
+pub mod Rewriting
+pub mod NormalForm
+-- What is computed and proved equal: truth as a Bool, and the class byte from the operands' bytes.
+pub mod Truth
+pub mod ClassStep
+-- What the theorem on the normal form speaks of.
+pub mod Subformula
+pub mod Recurrence
+pub mod Choice

@@ -1,0 +1,91 @@
+-- The normal form of source 002, Theorem 23, in the order of document 01: choices, their parts, and the form.
+use Prim.Native.Nat.{ℕ, zero, suc, _/_, _%_, _^_}
+use mathlib.Core.Bool.{Bool, true, false, _||_, cond}
+use mathlib.Core.List.{List, [], _∷_, _++_, map, foldl}
+use lib.ListN.{length}
+use lib.Count.{ones}
+use lib.Dec.{eqb}
+use Rattle.logic.specs.Formula.{Formula, Binary, const, lit, un, bin, conj, disj, until, weak, release, strong, implies, F, G, same}
+use Rattle.logic.specs.Rewriting.{steady, recurring, opening}
+
+-- U and M, the least fixpoints; W and R, the greatest (document 01: the until-like words)
+abbrev pub isLeast : Formula → Bool
+isLeast (const b) = false
+isLeast (lit b n) = false
+isLeast (un o a) = false
+isLeast (bin conj a b) = false
+isLeast (bin disj a b) = false
+isLeast (bin until a b) = true
+isLeast (bin weak a b) = false
+isLeast (bin release a b) = false
+isLeast (bin strong a b) = true
+isLeast (bin implies a b) = false
+
+abbrev pub isGreatest : Formula → Bool
+isGreatest (const b) = false
+isGreatest (lit b n) = false
+isGreatest (un o a) = false
+isGreatest (bin conj a b) = false
+isGreatest (bin disj a b) = false
+isGreatest (bin until a b) = false
+isGreatest (bin weak a b) = true
+isGreatest (bin release a b) = true
+isGreatest (bin strong a b) = false
+isGreatest (bin implies a b) = false
+
+abbrev pub isFixpoint : Formula → Bool
+isFixpoint φ = isLeast φ || isGreatest φ
+
+-- the elements that pass a test, in their order
+abbrev pub keep {ℓ} : {A : Type ℓ} → (A → Bool) → List A → List A
+keep p [] = []
+keep p (a ∷ l) = cond (p a) (a ∷ keep p l) (keep p l)
+
+abbrev pub member : List Formula → Formula → Bool
+member [] φ = false
+member (ψ ∷ ψs) φ = same ψ φ || member ψs φ
+
+-- the chosen ones of the numbered fixpoint formulas: the one of bit b is chosen if bit b of the choice is 1
+unfoldable pub chosen : List Formula → ℕ → List Formula
+chosen [] c = []
+chosen (ψ ∷ ψs) c = cond (eqb (c % 2) 1) (ψ ∷ chosen ψs (c / 2)) (chosen ψs (c / 2))
+
+-- M and N of a choice
+unfoldable pub leastOf : List Formula → ℕ → List Formula
+leastOf ψs c = keep isLeast (chosen ψs c)
+
+unfoldable pub greatestOf : List Formula → ℕ → List Formula
+greatestOf ψs c = keep isGreatest (chosen ψs c)
+
+-- the opening form of the rule, and GF of the recurring form of each M member, and FG of the steady form of each N member
+unfoldable pub part : List Formula → Formula → ℕ → Formula
+part ψs φ c =
+    foldl (bin conj) (opening (member (leastOf ψs c)) φ)
+    (map (λ ψ. G (F (recurring (member (greatestOf ψs c)) ψ))) (leastOf ψs c)
+    ++ map (λ ψ. F (G (steady (member (leastOf ψs c)) ψ))) (greatestOf ψs c))
+
+-- the numbers from a on, n of them
+abbrev pub from : ℕ → ℕ → List ℕ
+from a zero = []
+from a (suc n) = a ∷ from (suc a) n
+
+-- the choices among k fixpoint formulas with a given number of chosen ones, lower numbers first
+unfoldable pub choicesOf : ℕ → ℕ → List ℕ
+choicesOf k n = keep (λ c. eqb (ones c) n) (from 0 (2 ^ k))
+
+abbrev pub joinAll {ℓ} : {A : Type ℓ} → List (List A) → List A
+joinAll [] = []
+joinAll (l ∷ ls) = l ++ joinAll ls
+
+-- fewer chosen ones first, equal counts by lower number
+unfoldable pub choices : ℕ → List ℕ
+choices k = joinAll (map (choicesOf k) (from 0 (suc k)))
+
+-- a disjunction from the left; there is always a choice, so the empty one is never used
+abbrev pub disjoin : List Formula → Formula
+disjoin [] = const false
+disjoin (φ ∷ φs) = foldl (bin disj) φ φs
+
+-- the normal form of φ, whose fixpoint formulas are numbered as listed
+unfoldable pub normalForm : List Formula → Formula → Formula
+normalForm ψs φ = disjoin (map (part ψs φ) (choices (length ψs)))
