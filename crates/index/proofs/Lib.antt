@@ -1,0 +1,2 @@
+-- The laws of the index.
+pub mod Laws

@@ -1,0 +1,2 @@
+-- What a hash index of a table's words says.
+pub mod Index

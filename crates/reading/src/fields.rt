@@ -1,0 +1,81 @@
+// The checks of one word by itself: its kind, then its fields.
+use crate::layout;
+use crate::layout::Layout;
+use table::refusal::Outcome;
+use table::refusal::Refusal;
+use table::word;
+ghost use mathlib.Core.Path.{_≡_};
+ghost use mathlib.Core.List.{[]};
+ghost use Rattle.table.specs.Refusals.{first};
+ghost use Rattle.table.specs.Checks.{wordChecks};
+ghost use Rattle.reading.specs.Layout.{andThen, blankChecks, operandChecks, letterChecks, fieldChecks};
+
+// A field that must be 0.
+fn blank_fault(field: usize, n: usize) -> Outcome
+    ensures { λ r. ⌜ r ≡ first (blankChecks field n) ⌝ }
+{
+    if field != 0 {
+        return Outcome::Refused(Refusal::FieldNotZero(n));
+    }
+    Outcome::Accepted
+}
+
+fn operand_fault(operand: usize, n: usize) -> Outcome
+    ensures { λ r. ⌜ r ≡ first (operandChecks operand n) ⌝ }
+{
+    if operand == 0 {
+        return Outcome::Refused(Refusal::OperandZero(n));
+    }
+    if n <= operand {
+        return Outcome::Refused(Refusal::OperandNotEarlier(n));
+    }
+    Outcome::Accepted
+}
+
+fn letter_fault(letter: usize, n: usize) -> Outcome
+    ensures { λ r. ⌜ r ≡ first (letterChecks letter n) ⌝ }
+{
+    if letter == 0 {
+        return Outcome::Refused(Refusal::LetterOutOfRange(n));
+    }
+    if 32 < letter {
+        return Outcome::Refused(Refusal::LetterOutOfRange(n));
+    }
+    Outcome::Accepted
+}
+
+// What was checked first decides, if it refuses.
+fn first_of(one: Outcome, other: Outcome) -> Outcome
+    ensures { λ r. ⌜ r ≡ andThen one other ⌝ }
+{
+    match one {
+        Outcome::Refused(r) => Outcome::Refused(r),
+        Outcome::Accepted => other,
+    }
+}
+
+fn field_fault(layout: Layout, left: usize, right: usize, n: usize) -> Outcome
+    ensures { λ r. ⌜ r ≡ first (fieldChecks layout left right n) ⌝ }
+{
+    let blank = blank_fault(left, n);
+    match layout {
+        Layout::Constant => first_of(blank, blank_fault(right, n)),
+        Layout::Letter => first_of(blank, letter_fault(right, n)),
+        Layout::Unary => first_of(blank, operand_fault(right, n)),
+        Layout::Binary => first_of(operand_fault(left, n), operand_fault(right, n)),
+    }
+}
+
+// Word number `n`, as if no word stood before it that it could repeat.
+pub fn fault(w: u32, n: usize, plain: bool) -> Outcome
+    ensures { λ r. ⌜ r ≡ first (wordChecks plain [] n w) ⌝ }
+{
+    let kind = word::kind(w);
+    if kind == 0 {
+        return Outcome::Refused(Refusal::KindZero(n));
+    }
+    if plain && 12 <= kind {
+        return Outcome::Refused(Refusal::NotPlain(n));
+    }
+    field_fault(layout::of_kind(kind), word::left(w), word::right(w), n)
+}

@@ -1,0 +1,86 @@
+-- One law for the starred cases: each row has a test that antt computes, and a test that passes makes its row right.
+use Prim.Native.Nat.{ℕ, zero, suc, _+_, _<_}
+use mathlib.Core.Path.{_≡_, refl, ap₂}
+use mathlib.Core.Bool.{Bool, true, false, _&&_, Bool·beq}
+use mathlib.Core.List.{List, [], _∷_}
+use mathlib.Core.Logic.{_↔_, Iff·rfl, Iff·symm, Iff·trans}
+use native.Mathlib.Nat.{add-zero, zero-add}
+use native.Mathlib.Omega.{arith}
+use lib.ListN.{length, getD}
+use lib.Dec.{T, eqb, eqb→eq}
+use lib.Count.{ones, onesIn}
+use Rattle.logic.specs.Formula.{same}
+use Rattle.logic.specs.Lasso.{word, place, letterIn}
+use Rattle.logic.specs.ClassByte.{classByte}
+use Rattle.logic.specs.NegationNormalForm as negation
+use Rattle.logic.specs.Rewriting.{steady, recurring, opening}
+use Rattle.logic.specs.NormalForm.{normalForm, choices, choicesOf, part, chosen, leastOf, greatestOf}
+use Rattle.logic.specs.Truth.{truth, sweep}
+use Rattle.logic.proofs.Tests.{T-and, T-beq, allPass, pass-at}
+use Rattle.logic.proofs.Lasso.Truth.{truth-holds}
+use Rattle.table.specs.Node.{kind, left, right, pack, shape}
+use Rattle.table.specs.declared.refusal.Outcome.{Outcome}
+use Rattle.table.specs.declared.refusal.Outcome.the-variants.{Accepted, Refused}
+use Rattle.table.specs.Refusals.{numberOf, placeOf}
+use Rattle.table.specs.Table.{formulaOf, wordFormula, formulasAfter, formulas, rule}
+use Rattle.table.specs.Checks.{occurs, wordChecks, wordsChecks, uses, used, useChecks, tableChecks, checked}
+use Rattle.table.specs.Numbering.{findFrom, find, put, build, tableOf}
+use Rattle.table.specs.Steps.{plainTable, fixpoints, normalTable}
+use Rattle.table.specs.Cases.{Case, normal, plain, refused, class, judged, IsRefusal, Right, starred}
+
+sameList : List ℕ → List ℕ → Bool
+sameList [] [] = true
+sameList [] (y ∷ ys) = false
+sameList (x ∷ xs) [] = false
+sameList (x ∷ xs) (y ∷ ys) = eqb x y && sameList xs ys
+
+same-list : (xs ys : List ℕ) → T (sameList xs ys) → xs ≡ ys
+unfolding sameList
+same-list [] [] h = refl
+same-list [] (y ∷ ys) h = absurd h
+same-list (x ∷ xs) [] h = absurd h
+same-list (x ∷ xs) (y ∷ ys) h = ap₂ _∷_ (eqb→eq x y (T-and (eqb x y) (sameList xs ys) .0 h .0)) (same-list xs ys (T-and (eqb x y) (sameList xs ys) .0 h .1))
+
+isRefusal : Outcome → ℕ → ℕ → Bool
+isRefusal Accepted n p = false
+isRefusal (Refused r) n p = eqb (numberOf r) n && eqb (placeOf r) p
+
+is-refusal : (o : Outcome) (n p : ℕ) → T (isRefusal o n p) → IsRefusal o n p
+unfolding isRefusal
+is-refusal Accepted n p h = h
+is-refusal (Refused r) n p h = (eqb→eq _ _ (T-and (eqb (numberOf r) n) _ .0 h .0), eqb→eq _ _ (T-and (eqb (numberOf r) n) _ .0 h .1))
+
+-- a sequence begins, from k on, with the listed values
+matches : (ℕ → Bool) → ℕ → List Bool → Bool
+matches f k [] = true
+matches f k (b ∷ bs) = Bool·beq b (f k) && matches f (suc k) bs
+
+match-at : (f : ℕ → Bool) (k : ℕ) (bs : List Bool) → T (matches f k bs) → (i : ℕ) → i < length bs → T (f (k + i)) ↔ T (getD bs i false)
+unfolding matches
+match-at f k [] h i l = absurd (omega arith)
+match-at f k (b ∷ bs) h zero l = rw (add-zero, T-beq b (f k) .0 (T-and (Bool·beq b (f k)) (matches f (suc k) bs) .0 h .0)) Iff·rfl
+match-at f k (b ∷ bs) h (suc i) l = let e : k + suc i ≡ suc k + i = omega arith in rw e (match-at f (suc k) bs (T-and (Bool·beq b (f k)) (matches f (suc k) bs) .0 h .1) i (omega arith))
+
+-- the test of a row
+test : Case → Bool
+test (normal t u) = sameList (normalTable t) u
+test (plain t u) = sameList (plainTable t) u
+test (refused t n p) = isRefusal (checked false 64 t) n p
+test (class t b) = eqb (classByte (rule t)) b
+test (judged t r bs) = matches (truth r (rule t)) 0 bs
+
+test-right : (c : Case) → T (test c) → Right c
+unfolding test
+test-right (normal t u) h = same-list (normalTable t) u h
+test-right (plain t u) h = same-list (plainTable t) u h
+test-right (refused t n p) h = is-refusal (checked false 64 t) n p h
+test-right (class t b) h = eqb→eq (classByte (rule t)) b h
+test-right (judged t r bs) h = λ i l. Iff·trans (Iff·symm (truth-holds r (rule t) i)) (rw zero-add at (match-at (truth r (rule t)) 0 bs h i l))
+
+all-pass : T (allPass test starred)
+unfolding allPass test sameList isRefusal matches normalTable plainTable fixpoints rule formulas formulasAfter formulaOf wordFormula kind left right pack shape tableOf build put find findFrom normalForm choices choicesOf part chosen leastOf greatestOf steady recurring opening same ones onesIn negation.plain classByte checked tableChecks wordsChecks wordChecks useChecks uses used occurs truth sweep word place letterIn
+all-pass = tt
+
+-- every starred case holds
+pub starred-right : (i : ℕ) → i < length starred → (d : Case) → Right (getD starred i d)
+starred-right = pass-at test Right test-right starred all-pass

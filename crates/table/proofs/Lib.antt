@@ -1,0 +1,7 @@
+-- Laws of the definitions of rule tables, a file a subject.
+pub mod First
+pub mod Fields
+pub mod Shapes
+pub mod Formulas
+pub mod Accepted
+pub mod Cases

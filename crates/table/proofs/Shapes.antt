@@ -1,0 +1,50 @@
+-- The shapes of the kinds of the operators, and of the words made for them.
+use Prim.Native.Nat.{ℕ, _<_}
+use mathlib.Core.Path.{_≡_, refl, ap, _∙_}
+use mathlib.Core.Bool.{Bool, true, false, cond}
+use lib.Dec.{lit<}
+use Rattle.logic.specs.Formula.{Unary, Binary, next, neg, finally, globally, conj, disj, until, weak, release, strong, implies}
+use Rattle.table.specs.Node.{constant, letter, unary, binary, kind, pack, shape, unaryKind, binaryKind}
+use Rattle.table.specs.Numbering.{constantWord, literalWord}
+use Rattle.table.proofs.Fields.{kind-pack}
+
+-- the kinds of the operators stand for them
+pub shape-unary : (o : Unary) → shape (unaryKind o) ≡ unary o
+unfolding shape
+shape-unary next = refl
+shape-unary neg = refl
+shape-unary finally = refl
+shape-unary globally = refl
+
+pub shape-binary : (o : Binary) → shape (binaryKind o) ≡ binary o
+unfolding shape
+shape-binary conj = refl
+shape-binary disj = refl
+shape-binary until = refl
+shape-binary weak = refl
+shape-binary release = refl
+shape-binary strong = refl
+shape-binary implies = refl
+
+pub shape-constant : (b : Bool) → shape (cond b 2 1) ≡ constant b
+unfolding shape
+shape-constant true = refl
+shape-constant false = refl
+
+pub shape-letter : (b : Bool) → shape (cond b 3 4) ≡ letter b
+unfolding shape
+shape-letter true = refl
+shape-letter false = refl
+
+-- what the words of the operators are, by shape
+pub shape-constantWord : (b : Bool) → shape (kind (constantWord b)) ≡ constant b
+shape-constantWord b = ap shape (kind-pack (cond b 2 1) 0 0 (lit< tt) (lit< tt)) ∙ shape-constant b
+
+pub shape-literalWord : (b : Bool) (p : ℕ) → p < 16384 → shape (kind (literalWord b p)) ≡ letter b
+shape-literalWord b p h = ap shape (kind-pack (cond b 3 4) 0 p (lit< tt) h) ∙ shape-letter b
+
+pub shape-unaryWord : (o : Unary) (m : ℕ) → m < 16384 → shape (kind (pack (unaryKind o) 0 m)) ≡ unary o
+shape-unaryWord o m h = ap shape (kind-pack (unaryKind o) 0 m (lit< tt) h) ∙ shape-unary o
+
+pub shape-binaryWord : (o : Binary) (l r : ℕ) → l < 16384 → r < 16384 → shape (kind (pack (binaryKind o) l r)) ≡ binary o
+shape-binaryWord o l r hl hr = ap shape (kind-pack (binaryKind o) l r hl hr) ∙ shape-binary o

@@ -1,0 +1,46 @@
+use mathlib.Core.Path.{sym, ap}
+use Rattle.table.specs.Refusals.{numberOf}
+use borrow.Author.Needs.{needs}
+use Rattle.table.proofs.refusal.number.Statement.{statement}
+use Rattle.table.proofs.refusal.number.Tie as tie
+
+pub number-spec : {M : Type 1} → statement M
+number-spec =
+    tie.close
+    (tie.spec
+    (search needs)
+    (search needs)
+    (search needs)
+    (search needs)
+    (search needs)
+    (search needs)
+    (search needs)
+    (search needs)
+    (search needs)
+    (search needs)
+    (search needs)
+    (search needs)
+    (search needs)
+    (search needs)
+    (search needs)
+    (search needs)
+    (search needs)
+    (search needs)
+    (λ c. sym (ap numberOf (c .enum-told .given .1)))
+    (λ c. sym (ap numberOf (c .enum-told2 .given .1)))
+    (λ c. sym (ap numberOf (c .enum-told3 .given .1)))
+    (λ c. sym (ap numberOf (c .enum-told4 .given .1)))
+    (λ c. sym (ap numberOf (c .enum-told5 .given .1)))
+    (λ c. sym (ap numberOf (c .enum-told6 .given .1)))
+    (λ c. sym (ap numberOf (c .enum-told7 .given .1)))
+    (λ c. sym (ap numberOf (c .enum-told8 .given .1)))
+    (λ c. sym (ap numberOf (c .enum-told9 .given .1)))
+    (λ c. sym (ap numberOf (c .enum-told10 .given .1)))
+    (λ c. sym (ap numberOf (c .enum-told11 .given .1)))
+    (λ c. sym (ap numberOf (c .enum-told12 .given .1)))
+    (λ c. sym (ap numberOf (c .enum-told13 .given .1)))
+    (λ c. sym (ap numberOf (c .enum-told14 .given .1)))
+    (λ c. sym (ap numberOf (c .enum-told15 .given .1)))
+    (λ c. sym (ap numberOf (c .enum-told16 .given .1)))
+    (λ c. sym (ap numberOf (c .enum-told17 .given .1)))
+    (λ c. sym (ap numberOf (c .enum-told18 .given .1))))

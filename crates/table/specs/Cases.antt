@@ -1,0 +1,74 @@
+-- The starred cases of document 01 as rows of one table, and what each row says of the definitions.
+use Prim.Native.Nat.{ℕ, _<_}
+use mathlib.Core.Path.{_≡_}
+use mathlib.Core.Bool.{Bool, true, false}
+use mathlib.Core.List.{List, [], _∷_}
+use mathlib.Core.Logic.{_↔_}
+use lib.ListN.{length, getD}
+use lib.Dec.{T, lit<}
+use Rattle.logic.specs.Lasso.{Lasso, word}
+use Rattle.logic.specs.Semantics.{Holds}
+use Rattle.logic.specs.ClassByte.{classByte}
+use Rattle.table.specs.declared.refusal.Refusal.{Refusal}
+use Rattle.table.specs.declared.refusal.Outcome.{Outcome}
+use Rattle.table.specs.declared.refusal.Outcome.the-variants.{Accepted, Refused}
+use Rattle.table.specs.Refusals.{numberOf, placeOf}
+use Rattle.table.specs.Table.{rule}
+use Rattle.table.specs.Checks.{checked}
+use Rattle.table.specs.Steps.{plainTable, normalTable}
+
+pub data Case : Type 0 where
+  -- a plain table, and its normal form's
+  normal : List ℕ → List ℕ → Case
+  -- a written table, and its plain form's
+  plain : List ℕ → List ℕ → Case
+  -- a written table, and the number and place of its refusal
+  refused : List ℕ → ℕ → ℕ → Case
+  -- a table, and the class byte of its last word
+  class : List ℕ → ℕ → Case
+  -- a table, a recording, and whether the rule holds at each recorded position
+  judged : List ℕ → Lasso → List Bool → Case
+
+-- an outcome is the refusal of that number and place
+abbrev pub IsRefusal : Outcome → ℕ → ℕ → Type 0
+IsRefusal Accepted n p = ⊥
+IsRefusal (Refused r) n p = (numberOf r ≡ n) × (placeOf r ≡ p)
+
+-- what a row says
+abbrev pub Right : Case → Type 0
+Right (normal t u) = normalTable t ≡ u
+Right (plain t u) = plainTable t ≡ u
+Right (refused t n p) = IsRefusal (checked false 64 t) n p
+Right (class t b) = classByte (rule t) ≡ b
+Right (judged t r bs) = (i : ℕ) → i < length bs → Holds (word r) (rule t) i ↔ T (getD bs i false)
+
+-- a recording of two samples, looped at the second; and one sample for ever
+abbrev pub twice : ℕ → ℕ → Lasso
+twice a b = record { samples = a ∷ b ∷ []; start = 1; inside = lit< tt }
+
+abbrev pub once : ℕ → Lasso
+once a = record { samples = a ∷ []; start = 0; inside = lit< tt }
+
+abbrev pub starred : List Case
+starred =
+    normal (0x30000001 ∷ []) (0x30000001 ∷ [])
+    ∷ normal (0x20000000 ∷ 0x30000001 ∷ 0x80004002 ∷ [])
+    (0x20000000 ∷ 0x30000001 ∷ 0x80004002 ∷ 0x10000000 ∷ 0x80004003 ∷ 0xA0010005 ∷ 0x5000C006 ∷ 0x6000C007 ∷ [])
+    ∷ plain (0x30000001 ∷ 0xD0000001 ∷ 0xC0000002 ∷ []) (0x10000000 ∷ 0x40000001 ∷ 0xA0004002 ∷ [])
+    ∷ refused (0x00000000 ∷ []) 3 1
+    ∷ refused (0x20000000 ∷ 0x70000000 ∷ []) 5 2
+    ∷ judged (0x30000001 ∷ 0xE0000001 ∷ []) (twice 0 1) (false ∷ true ∷ [])
+    ∷ judged (0x30000001 ∷ 0xD0000001 ∷ []) (twice 1 0) (true ∷ false ∷ [])
+    ∷ judged (0x30000001 ∷ 0x30000002 ∷ 0x90004002 ∷ []) (once 1) (true ∷ [])
+    ∷ judged (0x30000001 ∷ 0x30000002 ∷ 0x80004002 ∷ []) (once 1) (false ∷ [])
+    ∷ class (0x30000001 ∷ 0x20000000 ∷ 0x80008001 ∷ 0x10000000 ∷ 0xA0010003 ∷ []) 0x60
+    ∷ class (0x30000001 ∷ 0x20000000 ∷ 0x80008001 ∷ []) 0x7A
+    ∷ class (0x30000001 ∷ 0x70000001 ∷ []) 0x7E
+    ∷ class (0x30000001 ∷ 0x20000000 ∷ 0x80008001 ∷ 0x10000000 ∷ 0xA0010003 ∷ 0x80008005 ∷ []) 0x00
+    -- not starred: a left field that must be 0 is looked at before an operand that is 0; the left operand before the right;
+    -- and p2 M p1 fails where p1 holds for ever and p2 never
+    ∷ refused (0x70004000 ∷ []) 8 1
+    ∷ refused (0x50004000 ∷ []) 6 1
+    ∷ judged (0x30000001 ∷ 0x30000002 ∷ 0xB0008001 ∷ []) (once 1) (false ∷ [])
+    ∷ judged (0x30000001 ∷ 0x30000002 ∷ 0xA0008001 ∷ []) (once 1) (true ∷ [])
+    ∷ []

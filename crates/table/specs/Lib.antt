@@ -1,0 +1,9 @@
+-- The definitions of rule tables: their words, what they mean, what refuses them, and how a form is written as one.
+pub mod Refusals
+pub mod Node
+pub mod Table
+pub mod Checks
+pub mod Numbering
+pub mod Steps
+pub mod StepChecks
+pub mod Cases

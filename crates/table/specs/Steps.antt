@@ -1,0 +1,24 @@
+-- What each step makes of a table: the class bytes, the plain form's table and the normal form's table.
+use Prim.Native.Nat.{ℕ}
+use mathlib.Core.Bool.{true}
+use mathlib.Core.List.{List, map}
+use Rattle.logic.specs.Formula.{Formula}
+use Rattle.logic.specs.ClassByte.{classByte}
+use Rattle.logic.specs.NegationNormalForm.{plain}
+use Rattle.logic.specs.NormalForm.{keep, isFixpoint, normalForm}
+use Rattle.table.specs.Table.{formulas, rule}
+use Rattle.table.specs.Numbering.{tableOf}
+
+-- one byte a word
+unfoldable pub classBytes : List ℕ → List ℕ
+classBytes t = map classByte (formulas t)
+
+unfoldable pub plainTable : List ℕ → List ℕ
+plainTable t = tableOf (plain true (rule t))
+
+-- the until-like words of a plain table, numbered from bit 0 upward in rising word number
+unfoldable pub fixpoints : List ℕ → List Formula
+fixpoints t = keep isFixpoint (formulas t)
+
+unfoldable pub normalTable : List ℕ → List ℕ
+normalTable t = tableOf (normalForm (fixpoints t) (rule t))

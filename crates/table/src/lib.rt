@@ -1,0 +1,3 @@
+// Rules as tables of 32-bit words: what refuses one, reading one, and writing one.
+pub mod refusal;
+pub mod word;

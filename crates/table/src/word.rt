@@ -1,0 +1,29 @@
+// The three fields of a word, and a word from its fields.
+ghost use mathlib.Core.Path.{_≡_};
+ghost use Prim.Native.Nat.{_<_};
+ghost use Rattle.table.specs.Node as node;
+
+pub fn kind(w: u32) -> u32
+    ensures { λ r. ⌜ r ≡ node.kind w ⌝ }
+{
+    w / 268435456
+}
+
+pub fn left(w: u32) -> usize
+    ensures { λ r. ⌜ r ≡ node.left w ⌝ }
+{
+    (w / 16384 % 16384) as usize
+}
+
+pub fn right(w: u32) -> usize
+    ensures { λ r. ⌜ r ≡ node.right w ⌝ }
+{
+    (w % 16384) as usize
+}
+
+pub fn pack(kind: u32, left: usize, right: usize) -> u32
+    requires { ⌜ (kind < 16) × (left < 16384) × (right < 16384) ⌝ }
+    ensures { λ r. ⌜ r ≡ node.pack kind left right ⌝ }
+{
+    kind * 268435456 + (left as u32) * 16384 + (right as u32)
+}
