@@ -1,0 +1,34 @@
+-- What the class step promises: after an accepted call, bit b of the byte of each word is 1 just where the word's formula is in the class of bit b.
+use Prim.Native.Nat.{ℕ, suc, _/_, _%_, _^_, _<_}
+use mathlib.Core.Path.{_≡_, ap, _∙_}
+use mathlib.Core.Logic.{_↔_}
+use mathlib.Core.List.{List}
+use native.Mathlib.Omega.{arith}
+use lib.ListN.{length, getD, drop, List·getD-append}
+use Rattle.logic.specs.Hierarchy.{Class}
+use Rattle.logic.specs.ClassByte.{classByte}
+use Rattle.logic.proofs.Hierarchy.ClassBit.{class-bit, classByte-lt}
+use Rattle.table.specs.declared.refusal.Outcome.{Outcome}
+use Rattle.table.specs.declared.refusal.Outcome.the-variants.{Accepted}
+use Rattle.table.specs.Refusals.{first}
+use Rattle.table.specs.Table.{formulaOf, formulas}
+use Rattle.table.specs.Steps.{classBytes}
+use Rattle.table.specs.StepChecks.{classChecks}
+use Rattle.classes.specs.Result.{resultBy, classResult}
+use Rattle.classes.proofs.Words.{length-classBytes, classBytes-at}
+
+module _ (t bytes : List ℕ) (accepted : first (classChecks t (length bytes)) ≡ Accepted) (j : ℕ) (h : j < length t) where
+  -- the byte at index j is the class byte of word number j + 1
+  pub byte-of-word : getD (classResult t bytes) j 0 ≡ classByte (formulaOf (formulas t) (suc j))
+  unfolding classResult formulaOf
+  byte-of-word =
+      ap (λ (o : Outcome). getD (resultBy o t bytes) j 0) accepted
+      ∙ List·getD-append (classBytes t) (drop (length t) bytes) 0 j (omega (arith, length-classBytes t))
+      ∙ classBytes-at t j h
+
+  pub class-promise : (b : ℕ) → (getD (classResult t bytes) j 0 / 2 ^ b % 2 ≡ 1) ↔ Class b (formulaOf (formulas t) (suc j))
+  class-promise b = rw byte-of-word (class-bit b (formulaOf (formulas t) (suc j)))
+
+  -- bit 7 is always 0
+  pub byte-lt : getD (classResult t bytes) j 0 < 128
+  byte-lt = rw byte-of-word (classByte-lt (formulaOf (formulas t) (suc j)))

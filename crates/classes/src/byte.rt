@@ -1,0 +1,48 @@
+// The class byte of a word from its operands' class bytes. Bits, lowest first: class zero, Sigma-1, Pi-1, Delta-1, Sigma-2, Pi-2, Delta-2.
+ghost use mathlib.Core.Path.{_≡_};
+ghost use Prim.Native.Nat.{_≤_, _<_};
+ghost use Rattle.logic.specs.ClassStep.{withDelta, nextByte, leastByte, greatestByte};
+ghost use Rattle.table.specs.Node.{shape};
+ghost use Rattle.classes.specs.ShapeByte.{shapeByte};
+
+// Delta-1 from Sigma-1 or Pi-1, and Delta-2 from Sigma-2 or Pi-2.
+fn with_delta(k: u8) -> u8
+    requires { ⌜ k < 64 ⌝ }
+    ensures { λ r. ⌜ r ≡ withDelta k ⌝ }
+{
+    k | ((k << 2 | k << 1) & 0x48)
+}
+
+pub fn next(a: u8) -> u8
+    ensures { λ r. ⌜ r ≡ nextByte a ⌝ }
+{
+    with_delta(a & 0x36)
+}
+
+// U and M.
+pub fn least(a: u8, b: u8) -> u8
+    ensures { λ r. ⌜ r ≡ leastByte a b ⌝ }
+{
+    let m = a & b;
+    with_delta(m & 0x12 | (m & 0x02) << 4)
+}
+
+// W and R.
+pub fn greatest(a: u8, b: u8) -> u8
+    ensures { λ r. ⌜ r ≡ greatestByte a b ⌝ }
+{
+    let m = a & b;
+    with_delta(m & 0x24 | (m & 0x04) << 2)
+}
+
+// A plain kind with two operands.
+pub fn binary(kind: u32, a: u8, b: u8) -> u8
+    requires { ⌜ (5 ≤ kind) × (kind < 12) × (kind ≡ 7 → ⊥) ⌝ }
+    ensures { λ r. ⌜ r ≡ shapeByte (shape kind) a b ⌝ }
+{
+    match kind {
+        5..=6 => a & b,
+        8 | 11 => least(a, b),
+        _ => greatest(a, b),
+    }
+}
