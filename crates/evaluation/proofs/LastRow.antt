@@ -1,0 +1,132 @@
+-- The rule's row, the last of the rows, and what is read off it.
+use Prim.Native.Nat.{ℕ, suc, _+_, _-_, _*_, _≤_, _<_}
+use mathlib.Core.Path.{_≡_, refl, sym, ap, ap₂, subst, _∙_}
+use mathlib.Core.Bool.{Bool, false, cond}
+use mathlib.Core.List.{List, []}
+use native.Mathlib.Omega.{arith}
+use lib.ListN.{length, getD, take, drop}
+use Rattle.logic.specs.Formula.{Formula, const}
+use Rattle.logic.specs.Lasso.{Lasso}
+use Rattle.logic.specs.Truth.{Sequence, truth}
+use Rattle.rows.specs.Row.{row, countTrue, firstFalse}
+use Rattle.rows.specs.Writing.{RowFor}
+use Rattle.table.specs.declared.refusal.Outcome.{Outcome}
+use Rattle.table.specs.declared.refusal.Outcome.the-variants.{Accepted, Refused}
+use Rattle.table.specs.declared.refusal.Refusal.{Refusal}
+use Rattle.table.specs.Refusals.{first}
+use Rattle.table.specs.Table.{formulaOf, formulas, rule}
+use Rattle.table.specs.StepChecks.{rowWords, tallyChecks}
+use Rattle.table.proofs.First.{first-passed}
+use Rattle.table.proofs.Formulas.{length-formulas}
+use Rattle.evaluation.specs.declared.tally.Tally.{Tally}
+use Rattle.evaluation.specs.declared.answer.Judgement.{Judgement}
+use Rattle.evaluation.specs.declared.answer.Judgement.the-variants.{Judged as JudgedAs, Refused as NotJudged}
+use Rattle.evaluation.specs.declared.answer.Judged.{Judged}
+use Rattle.evaluation.specs.Tallies.{isFull, counted, tallyAfter}
+use Rattle.evaluation.specs.Judging.{lassoOf, rowOf, rowsThen, judgement, replyBy, rowOutcome, judgeOutcome, reply, scratchAfter, lastRow}
+use Rattle.evaluation.proofs.Outcomes.{Judgeable, judgeable, judge-both}
+use Rattle.evaluation.proofs.Scratch.{width, row-part}
+use Rattle.evaluation.proofs.WordRow.{Inside, lasso-inside, accepted-facts, part-small, part-end, part-for}
+
+-- what the judge accepts the row call accepts
+pub judge-rows : (t samples : List ℕ) (start : ℕ) (s : List ℕ) (tally : Tally)
+    → judgeOutcome t samples start s tally ≡ Accepted → rowOutcome t samples start s ≡ Accepted
+unfolding judgeOutcome rowOutcome
+judge-rows t samples start s tally e = judge-both t (length samples) start (length s) (tally .judged) (tally .held) e .0
+
+-- the part of the last row among the rows
+module _ (t samples : List ℕ) (start : ℕ) (s : List ℕ) (words : ℕ)
+    (accepted : rowOutcome t samples start s ≡ Accepted) (wide : words ≡ rowWords (length samples)) where
+  facts : Judgeable t (length samples) start (length s)
+  facts = accepted-facts t samples start s accepted
+
+  pub some-word : 1 ≤ length t
+  some-word = facts .table .some
+
+  last : length t - 1 < length t
+  last = omega (arith, some-word)
+
+  pub last-small : (length t - 1) * words + words ≤ 1048576
+  last-small = part-small t samples start (length t - 1) s words last accepted wide
+
+  pub last-end : (length t - 1) * words + words ≤ length s
+  last-end = part-end t samples start (length t - 1) s words last accepted wide
+
+  pub last-for : RowFor (length samples) (take ((length t - 1) * words + words - (length t - 1) * words) (drop ((length t - 1) * words) s))
+  last-for = part-for t samples start (length t - 1) s words last accepted wide
+
+  last-formula : rule t ≡ getD (formulas t) (length t - 1) (const false)
+  unfolding rule formulaOf
+  last-formula = ap (formulaOf (formulas t)) same
+    where
+      same : length t ≡ suc (length t - 1)
+      same = omega (arith, some-word)
+
+  pub last-row : (u : List ℕ) → s ≡ rowsThen (lassoOf samples start) (formulas t) u
+      → take ((length t - 1) * words + words - (length t - 1) * words) (drop ((length t - 1) * words) s) ≡ rowOf (lassoOf samples start) (rule t)
+  unfolding rowsThen
+  last-row u e =
+      let r : Lasso = lassoOf samples start in
+      let n : ℕ = length t - 1 in
+      let i : Inside samples start = lasso-inside samples start (facts .inside) in
+      let wider : words ≡ width r = wide ∙ ap (λ (x : Lasso). width x) (sym (i .1)) in
+      let rest : n * words + words - n * words ≡ words = omega arith in
+      ap (λ (k : ℕ). take k (drop (n * words) s)) rest
+      ∙ ap₂ (λ (k : ℕ) (x : List ℕ). take k (drop (n * k) x)) wider e
+      ∙ row-part r (formulas t) n (drop (length (formulas t) * width r) u) (omega (arith, length-formulas t, last))
+      ∙ ap (rowOf r) (sym last-formula)
+
+-- a tally that is not full is counted on
+tally-counted : (c : Tally) (holds : Bool) → first (tallyChecks (c .judged) (c .held)) ≡ Accepted → tallyAfter c holds ≡ counted c holds
+unfolding tallyChecks
+tally-counted c holds e = ap (λ (b : Bool). cond b c (counted c holds)) (first-passed (tallyChecks (c .judged) (c .held)) e .0)
+
+-- the three answers, from what is read off a row
+pub judged-is : (f : Sequence) (L : ℕ) (holds : Bool) (moments failing : ℕ) → holds ≡ f 0 → moments ≡ countTrue f L → failing ≡ firstFalse f 0 L
+    → JudgedAs holds moments failing ≡ judgement f L
+judged-is f L holds moments failing a b c = cc
+
+-- what is read off the rule's row is the reply
+pub accepted-reply : (t samples : List ℕ) (start : ℕ) (s part : List ℕ) (tally : Tally) (j : Judged)
+    → judgeOutcome t samples start s tally ≡ Accepted
+    → part ≡ rowOf (lassoOf samples start) (rule t)
+    → ((f : Sequence) → part ≡ row (length samples) f → (j .answer ≡ judgement f (length samples)) × (j .tally ≡ tallyAfter tally (f 0)))
+    → j ≡ reply t samples start s tally
+unfolding judgeOutcome reply replyBy rowOf
+accepted-reply t samples start s part tally j e p read =
+    let checks = judge-both t (length samples) start (length s) (tally .judged) (tally .held) e in
+    let i : Inside samples start = lasso-inside samples start (judgeable t (length samples) start (length s) (checks .0) .inside) in
+    let r : Lasso = record { samples = samples; start = start; inside = i .0 } in
+    let f : Sequence = truth r (rule t) in
+    let known = read f (subst (λ (x : Lasso). part ≡ rowOf x (rule t)) (i .1) p) in
+    let built : j ≡ replyBy Accepted r (rule t) tally = as-judged (known .0) (known .1 ∙ tally-counted tally (f 0) (checks .1)) in
+    built ∙ ap₂ (λ (o : Outcome) (x : Lasso). replyBy o x (rule t) tally) (sym e) (sym (i .1))
+  where
+    as-judged : {a : Judgement} {c : Tally} → j .answer ≡ a → j .tally ≡ c → j ≡ record { answer = a; tally = c }
+    as-judged d h = ap₂ (λ (a : Judgement) (c : Tally). record { answer = a; tally = c }) d h
+
+pub refused-reply : (t samples : List ℕ) (start : ℕ) (s : List ℕ) (tally : Tally) (why : Refusal)
+    → judgeOutcome t samples start s tally ≡ Refused why → record { answer = NotJudged why; tally = tally } ≡ reply t samples start s tally
+unfolding reply replyBy
+refused-reply t samples start s tally why e = ap (λ (o : Outcome). replyBy o (lassoOf samples start) (rule t) tally) (sym e)
+
+-- ---- the scratch and the part, by what the checks say
+
+pub accepted-scratch : {o : Outcome} (t samples : List ℕ) (start : ℕ) (s : List ℕ) → o ≡ Accepted
+    → rowsThen (lassoOf samples start) (formulas t) s ≡ scratchAfter o t samples start s
+unfolding scratchAfter
+accepted-scratch t samples start s e = ap (λ (o : Outcome). scratchAfter o t samples start s) (sym e)
+
+pub refused-scratch : {o : Outcome} {why : Refusal} (t samples : List ℕ) (start : ℕ) (s : List ℕ) → o ≡ Refused why
+    → s ≡ scratchAfter o t samples start s
+unfolding scratchAfter
+refused-scratch t samples start s e = ap (λ (o : Outcome). scratchAfter o t samples start s) (sym e)
+
+pub accepted-part : {o : Outcome} (t samples : List ℕ) (start : ℕ) → o ≡ Accepted
+    → rowOf (lassoOf samples start) (rule t) ≡ lastRow o t samples start
+unfolding lastRow
+accepted-part t samples start e = ap (λ (o : Outcome). lastRow o t samples start) (sym e)
+
+pub refused-part : {o : Outcome} {why : Refusal} (t samples : List ℕ) (start : ℕ) → o ≡ Refused why → [] ≡ lastRow o t samples start
+unfolding lastRow
+refused-part t samples start e = ap (λ (o : Outcome). lastRow o t samples start) (sym e)

@@ -1,0 +1,181 @@
+-- One word's turn: its operands' rows stand in the scratch, and its own row is put into its part.
+use Prim.Native.Nat.{ℕ, zero, suc, _+_, _-_, _*_, _/_, _≤_, _<_}
+use mathlib.Core.Path.{_≡_, refl, sym, ap, ap₂, subst, _∙_}
+use mathlib.Core.Bool.{true, false}
+use mathlib.Core.List.{List, [], _∷_, _++_}
+use native.Mathlib.Decide.{decLt}
+use native.Mathlib.Numerals.{add-one}
+use native.Mathlib.Nat.{mul-le-mul}
+use native.Mathlib.Omega.{arith}
+use lib.ListN.{length, getD, take, drop, length-drop}
+use lib.Seq.{take-all, take-suc, length-take-le}
+use Rattle.logic.specs.Formula.{Formula, const}
+use Rattle.logic.specs.Lasso.{Lasso}
+use Rattle.logic.specs.Truth.{Sequence, truth}
+use Rattle.rows.specs.Row.{row}
+use Rattle.rows.specs.Row as rows
+use Rattle.rows.specs.Writing.{RowFor}
+use Rattle.table.specs.declared.refusal.Outcome.the-variants.{Accepted}
+use Rattle.table.specs.Node.{kind, left, right, shape}
+use Rattle.table.specs.Table.{formulaOf, wordFormula, formulas}
+use Rattle.table.specs.Checks.{isOperand, isProposition, holdsLeft, holdsRight}
+use Rattle.table.specs.StepChecks.{rowWords}
+use Rattle.table.proofs.Formulas.{length-formulas, formula-at}
+use Rattle.table.proofs.Accepted.{WellFormedWord}
+use Rattle.evaluation.specs.Judging.{lassoBy, lassoOf, rowOf, rowOutcome, rowsThen}
+use Rattle.evaluation.specs.Looped.{looped}
+use Rattle.evaluation.proofs.Outcomes.{Judgeable, judgeable}
+use Rattle.evaluation.proofs.Looped.{looped-row}
+use Rattle.evaluation.proofs.Scratch.{width, row-end, row-part, rowsThen-over, rowsThen-more}
+
+-- samples and a loop start that is inside are a lasso
+abbrev pub Inside : List ℕ → ℕ → Type 0
+Inside samples start = (h : start < length samples) × (lassoOf samples start ≡ record { samples = samples; start = start; inside = h })
+
+pub lasso-inside : (samples : List ℕ) (start : ℕ) → start < length samples → Inside samples start
+unfolding lassoOf
+lasso-inside samples start h = by (decLt start (length samples))
+  where
+    by : (d : Dec (start < length samples))
+        → (k : start < length samples) × (lassoBy samples start d ≡ record { samples = samples; start = start; inside = k })
+    by (yes k) = (k, refl)
+    by (no k) = absurd (k h)
+
+-- the row of an operand, which is an earlier word
+pub operand-row : (r : Lasso) (φs : List Formula) (s : List ℕ) (n : ℕ) → s ≡ rowsThen r φs s → 1 ≤ n → n ≤ length φs
+    → take (width r) (drop ((n - 1) * width r) s) ≡ rowOf r (formulaOf φs n)
+unfolding rowsThen formulaOf
+operand-row r φs s zero e h l = absurd (omega arith)
+operand-row r φs s (suc n) e h l =
+    let d : suc n - 1 ≡ n = omega arith in
+    rw d
+    (ap (λ (x : List ℕ). take (width r) (drop (n * width r) x)) e
+    ∙ row-part r φs n (drop (length φs * width r) s) (omega arith))
+
+-- the same, read off a copy
+loaded-row : (r : Lasso) (φs : List Formula) (s a : List ℕ) (words l n : ℕ) → s ≡ rowsThen r φs s → words ≡ width r → l ≡ n
+    → 1 ≤ n → n ≤ length φs → (1 ≤ l → l ≤ length φs → take words a ≡ take words (drop ((l - 1) * words) s))
+    → take (width r) a ≡ rowOf r (formulaOf φs n)
+loaded-row r φs s a words l n stands wide same h k load =
+    ap (λ (x : ℕ). take x a) (sym wide)
+    ∙ load (omega arith) (omega arith)
+    ∙ ap₂ (λ (x y : ℕ). take x (drop ((y - 1) * x) s)) wide same
+    ∙ operand-row r φs s n stands h k
+
+-- the list with a row of so many words put into part n
+abbrev withRow : ℕ → ℕ → List ℕ → List ℕ → List ℕ
+withRow n words s e = take (n * words) s ++ (e ++ drop words (drop (n * words) s))
+
+pub accepted-facts : (t samples : List ℕ) (start : ℕ) (s : List ℕ) → rowOutcome t samples start s ≡ Accepted
+    → Judgeable t (length samples) start (length s)
+unfolding rowOutcome
+accepted-facts t samples start s e = judgeable t (length samples) start (length s) e
+
+pub few-samples : (t samples : List ℕ) (start : ℕ) (s : List ℕ) → rowOutcome t samples start s ≡ Accepted → length samples ≤ 4096
+few-samples t samples start s e = accepted-facts t samples start s e .few
+
+module _ (t samples : List ℕ) (start j : ℕ) (s : List ℕ) (words : ℕ) (h : j < length t)
+    (accepted : rowOutcome t samples start s ≡ Accepted) (wide : words ≡ rowWords (length samples)) where
+  facts : Judgeable t (length samples) start (length s)
+  facts = accepted-facts t samples start s accepted
+
+  pub few-words : words ≤ 64
+  unfolding rowWords
+  few-words = rw wide (omega (arith, facts .few))
+
+  pub part-end : j * words + words ≤ length s
+  part-end = row-end j (length t) words (length s) h (subst (λ (w : ℕ). length t * w ≤ length s) (sym wide) (facts .room))
+
+  pub operands-fit : (j ≤ 16383) × (words ≤ 64) × (j * words ≤ length s)
+  operands-fit = (omega (arith, facts .table .few), few-words, omega (arith, part-end))
+
+  pub part-small : j * words + words ≤ 1048576
+  part-small = omega (arith, mul-le-mul (operands-fit .0) few-words, few-words)
+
+  pub part-for : RowFor (length samples) (take (j * words + words - j * words) (drop (j * words) s))
+  unfolding rowWords
+  part-for = record {
+    some = facts .some;
+    few = facts .few;
+    size =
+        length-take-le (j * words + words - j * words) (drop (j * words) s) (simp length-drop (omega (arith, part-end)))
+        ∙ omega (arith, wide);
+  }
+
+  word-formed : WellFormedWord false (take j t) (suc j) (getD t j 0)
+  word-formed = facts .table .word j h
+
+  pub letter-known : isProposition (holdsRight (getD t j 0)) ≡ true → (1 ≤ right (getD t j 0)) × (right (getD t j 0) ≤ 32)
+  letter-known = word-formed .letter
+
+  pub start-inside : start < length samples
+  start-inside = facts .inside
+
+  -- the word's row in its part, from the copies of its operands' rows and what the writer promises
+  pub row-filled : s ≡ rowsThen (lassoOf samples start) (take j (formulas t)) s → (a b e : List ℕ) (l n : ℕ)
+      → l ≡ left (getD t j 0) → n ≡ right (getD t j 0)
+      → (1 ≤ l → l ≤ j → take words a ≡ take words (drop ((l - 1) * words) s))
+      → (1 ≤ n → n ≤ j → take words b ≡ take words (drop ((n - 1) * words) s))
+      → ((f g : Sequence)
+      → (isOperand (holdsLeft (getD t j 0)) ≡ true → take (rows.words (length samples)) a ≡ row (length samples) f)
+      → (isOperand (holdsRight (getD t j 0)) ≡ true → take (rows.words (length samples)) b ≡ row (length samples) g)
+      → e ≡ row (length samples) (looped (length samples) start samples (shape (kind (getD t j 0))) (right (getD t j 0)) f g))
+      → take (j * words) s ++ (e ++ drop (j * words + words - j * words) (drop (j * words) s))
+      ≡ rowsThen (lassoOf samples start) (take (j + 1) (formulas t)) s
+  unfolding rowOf rowWords wordFormula
+  row-filled so-far a b e l n el er la lb promised =
+      let w : ℕ = getD t j 0 in
+      let φs : List Formula = take j (formulas t) in
+      let m : length φs ≡ j = length-take-le j (formulas t) (omega (arith, length-formulas t)) in
+      let i : Inside samples start = lasso-inside samples start (facts .inside) in
+      let r : Lasso = record { samples = samples; start = start; inside = i .0 } in
+      let stands : s ≡ rowsThen r φs s = subst (λ (x : Lasso). s ≡ rowsThen x φs s) (i .1) so-far in
+      let A : Formula = formulaOf φs (left w) in
+      let B : Formula = formulaOf φs (right w) in
+      let written : e ≡ rowOf r (wordFormula φs w) =
+      promised (truth r A) (truth r B)
+      (λ o. loaded-row r φs s a words l (left w) stands wide el (word-formed .operand-left o .0)
+      (omega (arith, word-formed .operand-left o .1)) (λ x y. la x (omega arith)))
+      (λ o. loaded-row r φs s b words n (right w) stands wide er (word-formed .operand-right o .0)
+      (omega (arith, word-formed .operand-right o .1)) (λ x y. lb x (omega arith)))
+      ∙ sym (looped-row r (shape (kind w)) (right w) A B)
+      in
+      let more : φs ++ (wordFormula φs w ∷ []) ≡ take (j + 1) (formulas t) =
+      ap (λ (φ : Formula). φs ++ (φ ∷ [])) (sym (formula-at t j h))
+      ∙ sym (take-suc (formulas t) j (const false) (omega (arith, length-formulas t)))
+      ∙ ap (λ (x : ℕ). take x (formulas t)) (sym (add-one j))
+      in
+      let rest : j * words + words - j * words ≡ words = omega arith in
+      ap (λ (x : ℕ). take (j * words) s ++ (e ++ drop x (drop (j * words) s))) rest
+      ∙ ap₂ (λ (x : ℕ) (y : List ℕ). withRow x words s y) (sym m) written
+      ∙ ap₂ (λ (x : ℕ) (y : List ℕ). withRow (length φs) x y (rowOf r (wordFormula φs w))) wide stands
+      ∙ rowsThen-more r φs (wordFormula φs w) s
+      ∙ ap₂ (λ (x : Lasso) (y : List Formula). rowsThen x y s) (sym (i .1)) more
+
+-- ---- the turns one after another
+
+-- the checks look at a scratch's length alone
+pub outcome-length : (t samples : List ℕ) (start : ℕ) (s u : List ℕ) → length u ≡ length s
+    → rowOutcome t samples start s ≡ Accepted → rowOutcome t samples start u ≡ Accepted
+unfolding rowOutcome
+outcome-length t samples start s u e h = rw e h
+
+module _ (r : Lasso) (t s u : List ℕ) (j : ℕ) (h : j ≤ length t) (e : u ≡ rowsThen r (take j (formulas t)) s) where
+  length-first : length (take j (formulas t)) ≡ j
+  length-first = length-take-le j (formulas t) (omega (arith, length-formulas t))
+
+  pub rows-stand : u ≡ rowsThen r (take j (formulas t)) u
+  rows-stand =
+      e
+      ∙ sym (rowsThen-over r (take j (formulas t)) (take j (formulas t)) s (omega arith))
+      ∙ ap (rowsThen r (take j (formulas t))) (sym e)
+
+  pub rows-next : (v : List ℕ) → j < length t → v ≡ rowsThen r (take (j + 1) (formulas t)) u → v ≡ rowsThen r (take (j + 1) (formulas t)) s
+  rows-next v k d =
+      let m : length (take (j + 1) (formulas t)) ≡ j + 1 = length-take-le (j + 1) (formulas t) (omega (arith, length-formulas t)) in
+      d
+      ∙ ap (rowsThen r (take (j + 1) (formulas t))) e
+      ∙ rowsThen-over r (take j (formulas t)) (take (j + 1) (formulas t)) s (omega (arith, m, length-first))
+
+  pub rows-all : length t ≤ j → u ≡ rowsThen r (formulas t) s
+  rows-all k = e ∙ ap (λ (φs : List Formula). rowsThen r φs s) (take-all j (formulas t) (omega (arith, length-formulas t)))

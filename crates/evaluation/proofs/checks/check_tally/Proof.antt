@@ -1,0 +1,20 @@
+-- A full tally is refused.
+use borrow.Author.Needs.{needs}
+use mathlib.Core.Path.{sym, _∙_}
+use Rattle.table.specs.StepChecks.{tallyChecks}
+use Rattle.evaluation.proofs.checks.check_tally.Statement.{statement}
+use Rattle.evaluation.proofs.checks.check_tally.Tie as tie
+
+full-requires : tie.Need-full-requires
+full-requires c κs = search needs
+
+returns : tie.Need-returns
+unfolding tallyChecks
+returns c = simp (sym (c .before .full .ensures) ∙ c .if1 .taken)
+
+returns-2 : tie.Need-returns-2
+unfolding tallyChecks
+returns-2 c = simp (sym (c .before .full .ensures) ∙ c .if1 .left)
+
+pub check-tally-spec : {M : Type 1} → statement M
+check-tally-spec = tie.close (tie.spec full-requires returns returns-2)

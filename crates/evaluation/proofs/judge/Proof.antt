@@ -1,0 +1,47 @@
+-- A refusal is handed on with the tally; else the reply is that of the accepted judgement.
+use borrow.Author.Needs.{needs}
+use mathlib.Core.Path.{sym, _∙_}
+use Rattle.evaluation.proofs.LastRow.{refused-reply, refused-scratch, accepted-scratch}
+use Rattle.evaluation.specs.Judging.{judgeOutcome}
+use Rattle.evaluation.proofs.judge.Statement.{statement}
+use Rattle.evaluation.proofs.judge.Tie as tie
+
+check-judge-requires : tie.Need-check-judge-requires
+check-judge-requires c κs = search needs
+
+enum-known-why : tie.Need-enum-known-why
+enum-known-why c = search needs
+
+enum-told : tie.Need-enum-told
+enum-told c = search needs
+
+judge-accepted-requires : tie.Need-judge-accepted-requires
+unfolding judgeOutcome
+judge-accepted-requires c κs = sym (c .before .before .before .check-judge .ensures) ∙ c .before .enum-told .given .1
+
+returns : tie.Need-returns
+unfolding judgeOutcome
+returns c =
+    let told = sym (c .before .before .before .check-judge .ensures) ∙ c .before .why .given .1 in
+    (refused-reply _ _ _ _ _ _ told, refused-scratch _ _ _ _ told)
+
+same-length : tie.Need-same-length
+same-length c = search needs
+
+returns-2 : tie.Need-returns-2
+unfolding judgeOutcome
+returns-2 c =
+    let told = sym (c .before .before .before .before .before .before .check-judge .ensures) ∙ c .before .before .before .before .enum-told .given .1 in
+    (c .before .before .judge-accepted .ensures .0, c .before .before .judge-accepted .ensures .1 ∙ accepted-scratch _ _ _ _ told)
+
+pub judge-spec : {M : Type 1} → statement M
+judge-spec =
+    tie.close
+    (tie.spec
+    check-judge-requires
+    enum-known-why
+    enum-told
+    judge-accepted-requires
+    returns
+    same-length
+    returns-2)

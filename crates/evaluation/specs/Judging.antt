@@ -1,0 +1,79 @@
+-- What a judgement answers, and what it leaves in the scratch: accepted or refused, the whole of both.
+use Prim.Native.Nat.{ℕ, _*_, _/_, _%_, _<_}
+use mathlib.Core.Bool.{Bool}
+use mathlib.Core.List.{List, [], _∷_, _++_}
+use native.Mathlib.Decide.{decLt}
+use lib.ListN.{length, getD, take, drop}
+use lib.Dec.{lit<}
+use Rattle.logic.specs.Formula.{Formula}
+use Rattle.logic.specs.Lasso.{Lasso}
+use Rattle.logic.specs.Truth.{Sequence, truth}
+use Rattle.rows.specs.Row.{bit, row, countTrue, firstFalse}
+use Rattle.table.specs.declared.refusal.Outcome.{Outcome}
+use Rattle.table.specs.declared.refusal.Outcome.the-variants.{Accepted, Refused}
+use Rattle.table.specs.Refusals.{first}
+use Rattle.table.specs.Table.{formulas, rule}
+use Rattle.table.specs.StepChecks.{rowWords, rowChecks, judgeChecks}
+use Rattle.evaluation.specs.declared.tally.Tally.{Tally}
+use Rattle.evaluation.specs.declared.answer.Judgement.{Judgement}
+use Rattle.evaluation.specs.declared.answer.Judgement.the-variants.{Judged as JudgedAs, Refused as NotJudged}
+use Rattle.evaluation.specs.declared.answer.Judged.{Judged}
+use Rattle.evaluation.specs.Tallies.{counted}
+
+-- samples and a loop start as a lasso; where the loop start is not below their number, which is refused, a single sample 0
+abbrev pub lassoBy : (samples : List ℕ) (start : ℕ) → Dec (start < length samples) → Lasso
+lassoBy samples start (yes h) = record { samples = samples; start = start; inside = h }
+lassoBy samples start (no h) = record { samples = 0 ∷ []; start = 0; inside = lit< tt }
+
+unfoldable pub lassoOf : List ℕ → ℕ → Lasso
+lassoOf samples start = lassoBy samples start (decLt start (length samples))
+
+-- the row of a formula: its truth at each position below the number of samples
+unfoldable pub rowOf : Lasso → Formula → List ℕ
+rowOf r φ = row (length (r .samples)) (truth r φ)
+
+-- the rows of formulas, one after the other
+unfoldable pub rowsOf : Lasso → List Formula → List ℕ
+rowsOf r [] = []
+rowsOf r (φ ∷ φs) = rowOf r φ ++ rowsOf r φs
+
+-- row number j, counted from 0, among rows of so many words, and whether it says that position i holds
+abbrev pub rowNumber : ℕ → ℕ → List ℕ → List ℕ
+rowNumber words j scratch = take words (drop (j * words) scratch)
+
+abbrev pub holdsIn : List ℕ → ℕ → Bool
+holdsIn r i = bit (getD r (i / 64) 0) (i % 64)
+
+-- rows at the start of the scratch, and past them its own words
+unfoldable pub rowsThen : Lasso → List Formula → List ℕ → List ℕ
+rowsThen r φs scratch = rowsOf r φs ++ drop (length φs * rowWords (length (r .samples))) scratch
+
+-- whether the rule holds at position 0, at how many positions, and the first that fails, the number of samples if none
+abbrev pub judgement : Sequence → ℕ → Judgement
+judgement f L = JudgedAs (f 0) (countTrue f L) (firstFalse f 0 L)
+
+-- the reply, by what the checks say; a refused judgement hands the tally back
+unfoldable pub replyBy : Outcome → Lasso → Formula → Tally → Judged
+replyBy Accepted r φ tally = record { answer = judgement (truth r φ) (length (r .samples)); tally = counted tally (truth r φ 0) }
+replyBy (Refused why) r φ tally = record { answer = NotJudged why; tally = tally }
+
+-- the scratch afterwards, by what the checks say; a refusal leaves it as it was
+unfoldable pub scratchAfter : Outcome → List ℕ → List ℕ → ℕ → List ℕ → List ℕ
+scratchAfter Accepted t samples start scratch = rowsThen (lassoOf samples start) (formulas t) scratch
+scratchAfter (Refused why) t samples start scratch = scratch
+
+-- the part that the row call hands back, the last word's row, and its number and place
+unfoldable pub lastRow : Outcome → List ℕ → List ℕ → ℕ → List ℕ
+lastRow Accepted t samples start = rowOf (lassoOf samples start) (rule t)
+lastRow (Refused why) t samples start = []
+
+-- what the checks of the two calls say
+unfoldable pub rowOutcome : List ℕ → List ℕ → ℕ → List ℕ → Outcome
+rowOutcome t samples start scratch = first (rowChecks t (length samples) start (length scratch))
+
+unfoldable pub judgeOutcome : List ℕ → List ℕ → ℕ → List ℕ → Tally → Outcome
+judgeOutcome t samples start scratch tally = first (judgeChecks t (length samples) start (length scratch) (tally .judged) (tally .held))
+
+-- the judge's whole reply
+unfoldable pub reply : List ℕ → List ℕ → ℕ → List ℕ → Tally → Judged
+reply t samples start scratch tally = replyBy (judgeOutcome t samples start scratch tally) (lassoOf samples start) (rule t) tally

@@ -1,0 +1,4 @@
+-- What a judgement answers, what it leaves in the scratch, and the tally after it.
+pub mod Tallies
+pub mod Judging
+pub mod Looped

@@ -1,0 +1,19 @@
+// What a judgement answers.
+use crate::tally::Tally;
+use table::refusal::Refusal;
+
+// Whether the rule holds at the first position, at how many positions, and the first position at which it fails.
+pub enum Judgement {
+    Judged {
+        holds: bool,
+        moments: usize,
+        failing: usize,
+    },
+    Refused(Refusal),
+}
+
+// The answer, with the tally after it.
+pub struct Judged {
+    pub answer: Judgement,
+    pub tally: Tally,
+}

@@ -1,0 +1,131 @@
+// Judging a rule over a looped recording: the rows of all its words, the answer read off the last one, and the tally.
+pub mod answer;
+mod checks;
+mod filling;
+mod operators;
+pub mod tally;
+
+ghost use mathlib.Core.Path.{_≡_};
+ghost use Rattle.rows.specs.Writing.{RowFor};
+ghost use Rattle.rows.specs.Row as rows;
+ghost use Rattle.logic.specs.Truth.{Sequence};
+ghost use Rattle.table.specs.declared.refusal.Outcome.the-variants.{Accepted};
+ghost use Rattle.table.specs.Table.{formulas};
+ghost use Rattle.evaluation.specs.Judging.{lassoOf, rowsThen, rowOutcome, judgeOutcome, judgement, reply, scratchAfter, lastRow};
+ghost use Rattle.table.specs.Refusals.{outcomeNumber, outcomePlace};
+ghost use Rattle.evaluation.specs.Tallies.{tallyAfter};
+use crate::answer::Judged;
+use crate::answer::Judgement;
+use crate::checks::check_judge;
+use crate::checks::check_row;
+use crate::checks::row_words;
+use crate::filling::fill_rows;
+use crate::tally::Tally;
+use rows::read::count_held;
+use rows::read::first_failing;
+use rows::read::holds_at;
+use table::refusal;
+use table::refusal::Outcome;
+
+// The answer off the rule's row, and the tally after it.
+fn read_answer(row: &[u64], positions: usize, tally: Tally) -> Judged
+    requires { ⌜ RowFor positions (now row) ⌝ }
+    ensures { λ r. ⌜ ((f : Sequence) → now (row .entry) ≡ rows.row positions f → (r .answer ≡ judgement f positions) × (r .tally ≡ tallyAfter tally (f 0))) ⌝ }
+{
+    let holds = holds_at(row, 0);
+    let moments = count_held(row);
+    let failing = first_failing(row, positions);
+    let answer = Judgement::Judged {
+        holds,
+        moments,
+        failing,
+    };
+    let after = tally.after(holds);
+    Judged {
+        answer,
+        tally: after,
+    }
+}
+
+// A judgement that the checks accept.
+fn judge_accepted(
+    table: &[u32],
+    samples: &[u32],
+    start: usize,
+    scratch: &mut [u64],
+    tally: Tally,
+) -> Judged
+    requires { ⌜ judgeOutcome (now table) (now samples) start (now scratch) tally ≡ Accepted ⌝ }
+    ensures { λ r. ⌜ r ≡ reply (now (table .entry)) (now (samples .entry)) start (now (scratch .entry)) tally ⌝ }
+    ensures { λ _. ⌜ now (scratch .exit) ≡ rowsThen (lassoOf (now (samples .entry)) start) (formulas (now (table .entry))) (now (scratch .entry)) ⌝ }
+{
+    fill_rows(table, samples, start, scratch);
+    let words = row_words(samples.len());
+    let from = (table.len() - 1) * words;
+    let to = from + words;
+    read_answer(&scratch[from..to], samples.len(), tally)
+}
+
+pub fn judge(
+    table: &[u32],
+    samples: &[u32],
+    start: usize,
+    scratch: &mut [u64],
+    tally: Tally,
+) -> Judged
+    ensures { λ r. ⌜ r ≡ reply (now (table .entry)) (now (samples .entry)) start (now (scratch .entry)) tally ⌝ }
+    ensures { λ _. ⌜ now (scratch .exit) ≡ scratchAfter (judgeOutcome (now (table .entry)) (now (samples .entry)) start (now (scratch .entry)) tally) (now (table .entry)) (now (samples .entry)) start (now (scratch .entry)) ⌝ }
+{
+    match check_judge(table, samples.len(), start, scratch.len(), tally) {
+        Outcome::Refused(why) => {
+            let answer = Judgement::Refused(why);
+            Judged { answer, tally }
+        }
+        Outcome::Accepted => judge_accepted(table, samples, start, scratch, tally),
+    }
+}
+
+// The rows alone, with no tally.
+pub fn fill(table: &[u32], samples: &[u32], start: usize, scratch: &mut [u64]) -> Outcome
+    ensures { λ r. ⌜ r ≡ rowOutcome (now (table .entry)) (now (samples .entry)) start (now (scratch .entry)) ⌝ }
+    ensures { λ r. ⌜ now (scratch .exit) ≡ scratchAfter r (now (table .entry)) (now (samples .entry)) start (now (scratch .entry)) ⌝ }
+{
+    match check_row(table, samples.len(), start, scratch.len()) {
+        Outcome::Refused(why) => Outcome::Refused(why),
+        Outcome::Accepted => {
+            fill_rows(table, samples, start, scratch);
+            Outcome::Accepted
+        }
+    }
+}
+
+// The row call: the rule's row, a part of the scratch, or an empty part with the refusal's number and place.
+// Of a slice that goes to the caller in part a contract says nothing at exit: what becomes of the whole scratch is said by `fill`.
+pub fn row<'a>(
+    table: &[u32],
+    samples: &[u32],
+    start: usize,
+    scratch: &'a mut [u64],
+    number: &mut u32,
+    place: &mut usize,
+) -> &'a mut [u64]
+    ensures { λ r. ⌜ now r ≡ lastRow (rowOutcome (now (table .entry)) (now (samples .entry)) start (now (scratch .entry))) (now (table .entry)) (now (samples .entry)) start ⌝ }
+    ensures { λ _. ⌜ now (number .exit) ≡ outcomeNumber (rowOutcome (now (table .entry)) (now (samples .entry)) start (now (scratch .entry))) ⌝ }
+    ensures { λ _. ⌜ now (place .exit) ≡ outcomePlace (rowOutcome (now (table .entry)) (now (samples .entry)) start (now (scratch .entry))) ⌝ }
+{
+    match fill(table, samples, start, scratch) {
+        Outcome::Refused(why) => {
+            *number = refusal::number(why);
+            *place = refusal::place(why);
+            &mut scratch[0..0]
+        }
+        Outcome::Accepted => {
+            *number = 0;
+            *place = 0;
+            let words = row_words(samples.len());
+            let from = (table.len() - 1) * words;
+            let to = from + words;
+            &mut scratch[from..to]
+        }
+    }
+}

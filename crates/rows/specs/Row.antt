@@ -1,0 +1,64 @@
+-- Rows: the truth of a formula at each of L positions, as 64-bit words.
+-- Position i stands at bit i % 64, bit 0 the lowest, of word i / 64, counted from 0; the unused high bits are 0.
+-- A truth sequence is a function from positions; of it only what stands below L counts.
+use mathlib.Core.Path.{_≡_}
+use Prim.Native.Nat.{ℕ, zero, suc, _+_, _-_, _*_, _/_, _%_, _^_, _≤_, _<_, min}
+use mathlib.Core.Bool.{Bool, true, false, cond}
+use mathlib.Core.List.{List, [], _∷_}
+use lib.ListN.{getD}
+use lib.Dec.{eqb, ltb}
+use Rattle.logic.specs.Truth.{Sequence, sweep}
+
+-- bit k of a number, bit 0 the lowest
+unfoldable pub bit : ℕ → ℕ → Bool
+bit x k = eqb (x / 2 ^ k % 2) 1
+
+abbrev pub digit : Bool → ℕ
+digit true = 1
+digit false = 0
+
+-- the n values of a sequence from position i on as a number, the value at i lowest
+unfoldable pub packBits : Sequence → ℕ → ℕ → ℕ
+packBits f i zero = 0
+packBits f i (suc n) = packBits f (suc i) n * 2 + digit (f i)
+
+-- how many words L positions take, and how many of the positions stand in word w
+abbrev pub words : ℕ → ℕ
+words L = (L + 63) / 64
+
+abbrev pub filled : ℕ → ℕ → ℕ
+filled L w = min 64 (L - w * 64)
+
+-- word w of the row of a sequence
+unfoldable pub wordOf : ℕ → Sequence → ℕ → ℕ
+wordOf L f w = packBits f (w * 64) (filled L w)
+
+-- words w, w + 1, .., n of them
+unfoldable pub wordsFrom : ℕ → Sequence → ℕ → ℕ → List ℕ
+wordsFrom L f w zero = []
+wordsFrom L f w (suc n) = wordOf L f w ∷ wordsFrom L f (suc w) n
+
+unfoldable pub row : ℕ → Sequence → List ℕ
+row L f = wordsFrom L f 0 (words L)
+
+-- words lo to hi - 1 of a list are those of the row of a sequence
+pub record Written (L : ℕ) (f : Sequence) (lo hi : ℕ) (r : List ℕ) : Type 0 where
+  pub word : (w : ℕ) → lo ≤ w → w < hi → getD r w 0 ≡ wordOf L f w
+
+-- the value at the position after i, of L positions with loop start s
+abbrev pub following : Sequence → ℕ → ℕ → Sequence
+following f L s i = cond (ltb (suc i) L) (f (suc i)) (f s)
+
+-- a fixpoint over L positions with loop start s, by two backward sweeps: the first gives the value at the loop start, the second starts from it
+abbrev pub fixpoint : Sequence → Sequence → Bool → ℕ → ℕ → Sequence
+fixpoint g q c L s i = sweep g q (sweep g q c s (L - s)) i (L - i)
+
+-- how many of the n first positions hold
+unfoldable pub countTrue : Sequence → ℕ → ℕ
+countTrue f zero = 0
+countTrue f (suc n) = countTrue f n + digit (f n)
+
+-- the first of the n positions from i on that fails, or the position after them
+unfoldable pub firstFalse : Sequence → ℕ → ℕ → ℕ
+firstFalse f i zero = i
+firstFalse f i (suc n) = cond (f i) (firstFalse f (suc i) n) i
