@@ -1,0 +1,2 @@
+-- The laws of forms that are built once.
+pub mod Laws

@@ -1,0 +1,18 @@
+use borrow.Author.Needs.{needs}
+use Rattle.memo.proofs.constant.Statement.{statement}
+use Rattle.memo.proofs.constant.Tie as tie
+
+pack-requires : tie.Need-pack-requires
+pack-requires c κs = search needs
+
+put-requires : tie.Need-put-requires
+put-requires c κs = search needs
+
+same-length : tie.Need-same-length
+same-length c = search needs
+
+returns : tie.Need-returns
+returns c = rw (← (c .before .before .before .pack .ensures)) (c .before .before .put .ensures)
+
+pub constant-spec : {M : Type 1} → statement M
+constant-spec = tie.close (tie.spec pack-requires put-requires same-length returns)

@@ -1,0 +1,230 @@
+-- What the plain-form step promises of every accepted table: its plain form means the same over every lasso at every position, is itself an
+-- accepted plain table, and has at most two words for each written one and two more.
+use Prim.Native.Nat.{ℕ, zero, suc, _+_, _*_, _≤_, _<_}
+use native.Mathlib.Omega.{arith}
+use mathlib.Core.Path.{_≡_, refl, sym, ap, ap₂, _∙_, subst}
+use mathlib.Core.Logic.{_↔_}
+use mathlib.Core.Bool.{Bool, true, false, not}
+use mathlib.Core.List.{List, _++_}
+use lib.ListN.{length, getD, take, drop}
+use Rattle.logic.specs.Formula.{Formula, const, lit, un, bin, next, neg, finally, globally, conj, disj, until, weak, release, strong, implies}
+use Rattle.logic.specs.Lasso.{Lasso, word}
+use Rattle.logic.specs.Semantics.{Holds}
+use Rattle.logic.specs.NegationNormalForm.{plain}
+use Rattle.logic.proofs.Lasso.Duality as duality
+use Rattle.table.specs.declared.refusal.Outcome.{Outcome}
+use Rattle.table.specs.declared.refusal.Outcome.the-variants.{Accepted}
+use Rattle.table.specs.Refusals.{first}
+use Rattle.table.specs.Node.{Shape, none, constant, letter, unary, binary, kind, left, right, shape, leftField, rightField}
+use Rattle.table.specs.Table.{formulas, formulaOf, formulaBy, rule}
+use Rattle.table.specs.Checks.{isOperand, isProposition, checked}
+use Rattle.table.specs.Steps.{plainTable}
+use Rattle.table.specs.StepChecks.{plainChecks}
+use Rattle.table.proofs.Accepted.{WellFormedWord, accepted-well-formed, accepted-formula}
+use Rattle.numbering.specs.Held.{Distinct, Held}
+use Rattle.numbering.specs.Letters.{Letters}
+use Rattle.numbering.proofs.Building.{tableOf-distinct}
+use Rattle.numbering.proofs.Built.{Built, Hereditary, tableOf-built, made-held, held-once}
+use Rattle.numbering.proofs.Used.{rule-tableOf}
+use Rattle.numbering.proofs.Accepted.{plain-small, accepted-tableOf}
+use Rattle.numbering.proofs.Putting.{fits-true}
+use Rattle.nnf.specs.declared.Plain.the-variants.{Form}
+use Rattle.nnf.specs.Forming.{formOf, slot}
+use Rattle.nnf.specs.Result.{answerBy, plainAnswer, resultBy, plainResult}
+use Rattle.nnf.proofs.Outcomes.{fitting}
+use Rattle.nnf.proofs.Forming.{slot-same}
+use Rattle.logic.proofs.Pigeonhole.{pigeonhole}
+
+-- the letters of a formula are 1 to 32
+abbrev Lettered : Formula → Type 0
+Lettered = Letters (λ p. (0 < p) × (p ≤ 32))
+
+letters-by : (s : Shape) (n : ℕ) (a b : Formula) → (isProposition (rightField s) ≡ true → (0 < n) × (n ≤ 32))
+    → (isOperand (leftField s) ≡ true → Lettered a) → (isOperand (rightField s) ≡ true → Lettered b) → Lettered (formulaBy s n a b)
+letters-by none n a b f g h = tt
+letters-by (constant c) n a b f g h = tt
+letters-by (letter c) n a b f g h = f refl
+letters-by (unary o) n a b f g h = h refl
+letters-by (binary o) n a b f g h = (g refl, h refl)
+
+letters-plain : (p : Bool) (φ : Formula) → Lettered φ → Lettered (plain p φ)
+unfolding plain
+letters-plain p (const b) h = tt
+letters-plain p (lit b n) h = h
+letters-plain p (un next a) h = letters-plain p a h
+letters-plain p (un neg a) h = letters-plain (not p) a h
+letters-plain p (un finally a) h = (tt, letters-plain p a h)
+letters-plain p (un globally a) h = (tt, letters-plain p a h)
+letters-plain p (bin conj a b) h = (letters-plain p a (h .0), letters-plain p b (h .1))
+letters-plain p (bin disj a b) h = (letters-plain p a (h .0), letters-plain p b (h .1))
+letters-plain p (bin until a b) h = (letters-plain p a (h .0), letters-plain p b (h .1))
+letters-plain p (bin weak a b) h = (letters-plain p a (h .0), letters-plain p b (h .1))
+letters-plain p (bin release a b) h = (letters-plain p a (h .0), letters-plain p b (h .1))
+letters-plain p (bin strong a b) h = (letters-plain p a (h .0), letters-plain p b (h .1))
+letters-plain p (bin implies a b) h = (letters-plain (not p) a (h .0), letters-plain p b (h .1))
+
+-- a formula is one of the forms of the words of t; the forms of word 0, which stands for false, are the constants
+abbrev FormOf : List ℕ → Formula → Type 0
+FormOf t φ = (p : Bool) × (j : ℕ) × (j ≤ length t) × (φ ≡ formOf p t j)
+
+abbrev Operands : List ℕ → Formula → Type 0
+Operands t (const b) = Unit {0}
+Operands t (lit b n) = Unit {0}
+Operands t (un o a) = FormOf t a
+Operands t (bin o a b) = FormOf t a × FormOf t b
+
+constant-form : (t : List ℕ) (b : Bool) → FormOf t (const b)
+unfolding plain formulaOf
+constant-form t true = (false, 0, omega arith, refl)
+constant-form t false = (true, 0, omega arith, refl)
+
+-- the operands of a word's forms are forms of words, given that for the words before it
+operands-by : (t : List ℕ) (p : Bool) (s : Shape) (n l r : ℕ)
+    → (isOperand (leftField s) ≡ true → l ≤ length t) → (isOperand (rightField s) ≡ true → r ≤ length t)
+    → (isOperand (rightField s) ≡ true → Operands t (formOf (not p) t r))
+    → Operands t (plain p (formulaBy s n (formulaOf (formulas t) l) (formulaOf (formulas t) r)))
+unfolding plain
+operands-by t p none n l r f g h = tt
+operands-by t p (constant c) n l r f g h = tt
+operands-by t p (letter c) n l r f g h = tt
+operands-by t p (unary next) n l r f g h = (p, r, g refl, refl)
+operands-by t p (unary neg) n l r f g h = h refl
+operands-by t p (unary finally) n l r f g h = (constant-form t p, (p, r, g refl, refl))
+operands-by t p (unary globally) n l r f g h = (constant-form t (not p), (p, r, g refl, refl))
+operands-by t p (binary conj) n l r f g h = ((p, l, f refl, refl), (p, r, g refl, refl))
+operands-by t p (binary disj) n l r f g h = ((p, l, f refl, refl), (p, r, g refl, refl))
+operands-by t p (binary until) n l r f g h = ((p, l, f refl, refl), (p, r, g refl, refl))
+operands-by t p (binary weak) n l r f g h = ((p, l, f refl, refl), (p, r, g refl, refl))
+operands-by t p (binary release) n l r f g h = ((p, l, f refl, refl), (p, r, g refl, refl))
+operands-by t p (binary strong) n l r f g h = ((p, l, f refl, refl), (p, r, g refl, refl))
+operands-by t p (binary implies) n l r f g h = ((not p, l, f refl, refl), (p, r, g refl, refl))
+
+module _ (limit : ℕ) (t : List ℕ) (ok : checked false limit t ≡ Accepted) where
+  well-formed : (i : ℕ) → i < length t → WellFormedWord false (take i t) (suc i) (getD t i 0)
+  well-formed = accepted-well-formed false limit t ok .word
+
+  formula : (i : ℕ) → i < length t
+      → formulaOf (formulas t) (suc i)
+      ≡ formulaBy (shape (kind (getD t i 0))) (right (getD t i 0)) (formulaOf (formulas t) (left (getD t i 0))) (formulaOf (formulas t) (right (getD t i 0)))
+  unfolding formulaOf
+  formula i h = accepted-formula (accepted-well-formed false limit t ok) i h
+
+  -- what holds of a word's formula once it holds of those of all earlier words
+  letters-step : (j : ℕ) → j ≤ length t → ((k : ℕ) → k < j → Lettered (formulaOf (formulas t) k)) → Lettered (formulaOf (formulas t) j)
+  unfolding formulaOf
+  letters-step zero l f = tt
+  letters-step (suc i) l f =
+      let w : ℕ = getD t i 0 in
+      let q = well-formed i l in
+      subst Lettered (sym (formula i l)) (
+      letters-by (shape (kind w)) (right w) (formulaOf (formulas t) (left w)) (formulaOf (formulas t) (right w)) (q .letter)
+      (λ e. f (left w) (q .operand-left e .1))
+      (λ e. f (right w) (q .operand-right e .1))
+      )
+
+  operands-step : (p : Bool) (j : ℕ) → j ≤ length t → ((q : Bool) (k : ℕ) → k < j → Operands t (formOf q t k)) → Operands t (formOf p t j)
+  unfolding formulaOf plain
+  operands-step p zero l f = tt
+  operands-step p (suc i) l f =
+      let w : ℕ = getD t i 0 in
+      let q = well-formed i l in
+      subst (λ (φ : Formula). Operands t (plain p φ)) (sym (formula i l)) (
+      operands-by t p (shape (kind w)) (right w) (left w) (right w)
+      (λ e. omega (arith, q .operand-left e .1))
+      (λ e. omega (arith, q .operand-right e .1))
+      (λ e. f (not p) (right w) (q .operand-right e .1))
+      )
+
+  letters-to : (n j : ℕ) → j ≤ n → j ≤ length t → Lettered (formulaOf (formulas t) j)
+  letters-to zero j h l = letters-step j l (λ k g. absurd (omega arith))
+  letters-to (suc n) j h l = letters-step j l (λ k g. letters-to n k (omega arith) (omega arith))
+
+  operands-to : (n : ℕ) (p : Bool) (j : ℕ) → j ≤ n → j ≤ length t → Operands t (formOf p t j)
+  operands-to zero p j h l = operands-step p j l (λ q k g. absurd (omega arith))
+  operands-to (suc n) p j h l = operands-step p j l (λ q k g. operands-to n q k (omega arith) (omega arith))
+
+  operands-of : (φ : Formula) → FormOf t φ → Operands t φ
+  operands-of φ f = subst (Operands t) (sym (f .3)) (operands-to (length t) (f .0) (f .1) (f .2) (f .2))
+
+  forms-hereditary : Hereditary (FormOf t)
+  forms-hereditary = record {
+    under = λ o a f. operands-of (un o a) f;
+    first = λ o a b f. operands-of (bin o a b) f .0;
+    second = λ o a b f. operands-of (bin o a b) f .1;
+  }
+
+slot-below : (p : Bool) (j n : ℕ) → j ≤ n → slot p j < 2 * n + 2
+slot-below true j n h = omega arith
+slot-below false j n h = omega arith
+
+module _ (limit : ℕ) (t : List ℕ) (ok : checked false limit t ≡ Accepted) where
+  rule-form : plain true (rule t) ≡ formOf true t (length t)
+  unfolding rule
+  rule-form = refl
+
+  letters : Lettered (plain true (rule t))
+  letters = rw rule-form (letters-plain true _ (letters-to limit t ok (length t) (length t) (omega arith) (omega arith)))
+
+  forms : Built (FormOf t) (plainTable t)
+  unfolding plainTable
+  forms = tableOf-built (forms-hereditary limit t ok) (plain true (rule t)) (true, length t, omega arith, rule-form)
+
+  -- which form a word of the plain form's table is
+  code : (i : ℕ) → i < length (plainTable t) → ℕ
+  code i h = let f = forms .formula i h .2 in slot (f .0) (f .1)
+
+  apart : Distinct (plainTable t)
+  unfolding plainTable
+  apart = tableOf-distinct (plain true (rule t))
+
+  code-below : (i : ℕ) (h : i < length (plainTable t)) → code i h < 2 * length t + 2
+  unfolding code
+  code-below i h = let f = forms .formula i h .2 in slot-below (f .0) (f .1) (length t) (f .2)
+
+  code-apart : (i j : ℕ) (h : i < length (plainTable t)) (l : j < length (plainTable t)) → code i h ≡ code j l → i ≡ j
+  unfolding code
+  code-apart i j h l e =
+      let a = forms .formula i h in
+      let b = forms .formula j l in
+      let s = slot-same (a .2 .0) (b .2 .0) (a .2 .1) (b .2 .1) e in
+      let same : b .0 ≡ a .0 = b .2 .3 ∙ sym (a .2 .3 ∙ ap₂ (λ (p : Bool) (n : ℕ). formOf p t n) (s .0) (s .1)) in
+      let n : suc i ≡ suc j = held-once (plainTable t) (a .0) (suc i) (suc j) apart (made-held _ i h (a .0) (a .1)) (subst (λ (φ : Formula). Held (plainTable t) φ (suc j)) same (made-held _ j l (b .0) (b .1))) in
+      omega arith
+
+  -- no more than one word for each of the two forms of each written word, and the constants
+  pub plain-length : length (plainTable t) ≤ 2 * length t + 2
+  plain-length = pigeonhole (2 * length t + 2) (length (plainTable t)) code code-below code-apart
+
+  pub plain-short : length (plainTable t) ≤ 2 * limit + 2
+  plain-short = omega (arith, plain-length, accepted-well-formed false limit t ok .few)
+
+  -- the limit leaves room in the fields of a word for every number
+  module _ (small : limit ≤ 8190) where
+    -- it passes the checks 1 to 10 of every step whose limit is two words for each written one and two more, also where that step takes plain tables only
+    pub plain-accepted : (plainOnly : Bool) (next-limit : ℕ) → 2 * limit + 2 ≤ next-limit → next-limit ≤ 16383 → checked plainOnly next-limit (plainTable t) ≡ Accepted
+    unfolding plainTable
+    plain-accepted b next-limit h l = accepted-tableOf b next-limit (plain true (rule t)) (duality.plain-is-plain true (rule t), letters) (omega (arith, plain-short)) l
+
+    -- its rule is the plain form of the rule
+    pub plain-rule : rule (plainTable t) ≡ plain true (rule t)
+    unfolding plainTable
+    plain-rule = rule-tableOf (plain true (rule t)) (plain-small (plain true (rule t)) letters) (omega (arith, plain-short))
+
+    -- over every lasso and at every position it holds exactly when the written rule does
+    pub plain-holds : (r : Lasso) (i : ℕ) → Holds (word r) (rule (plainTable t)) i ↔ Holds (word r) (rule t) i
+    plain-holds r i = rw plain-rule (duality.plain-holds r true (rule t) i)
+
+-- the step's own limit of 64 words
+module _ (t : List ℕ) (ok : checked false 64 t ≡ Accepted) where
+  -- a slice of two words for each written one and two more is long enough, so the step answers the form and puts it at the front
+  module _ (result : List ℕ) (long : 2 * length t + 2 ≤ length result) where
+    fits-result : first (plainChecks t (length result)) ≡ Accepted
+    fits-result = fitting t result ok (fits-true (length (plainTable t)) (length result) (omega (arith, plain-length 64 t ok, plain-short 64 t ok, long)))
+
+    pub plain-answered : plainAnswer t (length result) ≡ Form (length (plainTable t))
+    unfolding plainAnswer
+    plain-answered = ap (λ (o : Outcome). answerBy o t) fits-result
+
+    pub plain-written : plainResult t result ≡ plainTable t ++ drop (length (plainTable t)) result
+    unfolding plainResult
+    plain-written = ap (λ (o : Outcome). resultBy o t result) fits-result

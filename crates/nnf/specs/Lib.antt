@@ -1,0 +1,4 @@
+-- What the plain-form step's promises cite.
+pub mod Kinds
+pub mod Forming
+pub mod Result

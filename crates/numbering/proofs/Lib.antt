@@ -1,0 +1,9 @@
+-- The laws of numbering words as first needed.
+pub mod Search
+pub mod Building
+pub mod Formulas
+pub mod Putting
+pub mod Placing
+pub mod Built
+pub mod Used
+pub mod Accepted

@@ -1,0 +1,4 @@
+-- What a table that is being built holds.
+pub mod Held
+pub mod Letters
+pub mod State
