@@ -1,0 +1,71 @@
+// The until-like words, numbered from bit 0 upward in rising word number.
+use table::word;
+ghost use Prim.Native.Nat.{_<_, _≤_};
+ghost use mathlib.Core.Path.{_≡_};
+ghost use mathlib.Core.Bool.{true};
+ghost use lib.ListN.{length};
+ghost use Rattle.table.specs.declared.refusal.Outcome.the-variants.{Accepted};
+ghost use Rattle.table.specs.Checks.{checked};
+ghost use Rattle.table.specs.Steps.{fixpoints};
+ghost use Rattle.table.specs.StepChecks.{isFixpointWord};
+ghost use Rattle.normalise.specs.Weights.{Chosen, Weighed, Ninth};
+
+pub fn is_fixpoint(w: u32) -> bool
+    ensures { λ r. ⌜ r ≡ isFixpointWord w ⌝ }
+{
+    match word::kind(w) {
+        8..=11 => true,
+        _ => false,
+    }
+}
+
+// The place of the ninth until-like word, or 0 where there are at most eight.
+pub fn ninth(table: &[u32]) -> usize
+    ensures { λ r. ⌜ Ninth (now (table .entry)) r ⌝ }
+{
+    let mut found: usize = 0;
+    let mut i = 0;
+    while i < table.len() {
+        if is_fixpoint(table[i]) {
+            if found == 8 {
+                return i + 1;
+            }
+            found += 1;
+        }
+        i += 1;
+    }
+    0
+}
+
+// Writes the weight of each until-like word's bit at the word's number, and hands back how many there are.
+pub fn weigh(table: &[u32], weights: &mut [u32; 131]) -> u32
+    requires { ⌜ (length (now table) ≤ 130) × (length (fixpoints (now table)) ≤ 8) ⌝ }
+    requires { ⌜ checked true 130 (now table) ≡ Accepted ⌝ }
+    requires { ⌜ length (now weights) ≡ 131 ⌝ }
+    ensures { λ r. ⌜ (r ≡ length (fixpoints (now (table .entry)))) × Weighed (now (table .entry)) (now (weights .exit)) (length (now (table .entry))) ⌝ }
+{
+    let mut bits: u32 = 0;
+    let mut next: u32 = 1;
+    let mut i = 0;
+    while i < table.len() {
+        if is_fixpoint(table[i]) {
+            weights[i + 1] = next;
+            next = 2 * next;
+            bits += 1;
+        }
+        i += 1;
+    }
+    bits
+}
+
+// Whether the choice has the bit of until-like word j.
+pub fn chosen(weights: &[u32; 131], choice: u32, j: usize) -> bool
+    requires { ⌜ j < 131 ⌝ }
+    ensures { λ r. ⌜ Chosen (now (weights .entry)) choice j r ⌝ }
+{
+    let weight = weights[j];
+    if weight == 0 {
+        return false;
+    }
+    choice / weight % 2 == 1
+}
