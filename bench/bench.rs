@@ -1,141 +1,239 @@
-// Times of the proved steps, called through the C boundary. Each figure is the least of several runs.
-use std::time::Instant;
+// Times of the proved steps, called through their C names, beside programs written for clarity. Each figure is the least of several
+// rounds after a warm-up; slices are lent again from call to call and are not cleared between. Ratios are ours over theirs.
+mod agree;
+mod hashmap;
+mod library;
+mod moments;
+mod rules;
+mod shapes;
+mod stack;
+mod timing;
 
-extern "C" {
-    fn showrule_check(table: *const u32, words: usize, plain: bool, limit: usize, place: *mut usize) -> u32;
-    fn showrule_classify(table: *const u32, words: usize, bytes: *mut u8, len: usize, place: *mut usize) -> u32;
-    fn showrule_plain(table: *const u32, words: usize, result: *mut u32, len: usize, form: *mut usize, place: *mut usize) -> u32;
-    fn showrule_judge(
-        table: *const u32, words: usize, samples: *const u32, count: usize, start: usize, scratch: *mut u64, len: usize,
-        judged: *mut u32, held: *mut u32, holds: *mut bool, moments: *mut usize, failing: *mut usize, place: *mut usize,
-    ) -> u32;
-}
+use rules::Rule;
+use shapes::{mixed, noise, over_letters, recording, PLAIN, WRITTEN};
+use std::hint::black_box;
+use timing::{in_turn, least, least_ms, pair, ratio};
 
-fn check(table: &[u32], plain: bool, limit: usize) -> (u32, usize) {
-    let mut place = 0;
-    let number = unsafe { showrule_check(table.as_ptr(), table.len(), plain, limit, &mut place) };
-    (number, place)
-}
-
-fn classify(table: &[u32], bytes: &mut [u8]) -> (u32, usize) {
-    let mut place = 0;
-    let number = unsafe { showrule_classify(table.as_ptr(), table.len(), bytes.as_mut_ptr(), bytes.len(), &mut place) };
-    (number, place)
-}
-
-fn plain(table: &[u32], result: &mut [u32]) -> (u32, usize) {
-    let (mut form, mut place) = (0, 0);
-    let number = unsafe { showrule_plain(table.as_ptr(), table.len(), result.as_mut_ptr(), result.len(), &mut form, &mut place) };
-    (number, place)
-}
-
-fn judge(table: &[u32], samples: &[u32], start: usize, scratch: &mut [u64]) -> (u32, usize) {
-    let (mut judged, mut held, mut holds, mut moments, mut failing, mut place) = (0, 0, false, 0, 0, 0);
-    let number = unsafe {
-        showrule_judge(
-            table.as_ptr(), table.len(), samples.as_ptr(), samples.len(), start, scratch.as_mut_ptr(), scratch.len(),
-            &mut judged, &mut held, &mut holds, &mut moments, &mut failing, &mut place,
-        )
-    };
-    (number, place)
-}
-
-// Numbers that look random, the same in every run.
-struct Numbers(u64);
-
-impl Numbers {
-    fn next(&mut self, below: u32) -> u32 {
-        self.0 = self.0.wrapping_mul(6364136223846793005).wrapping_add(1442695040888963407);
-        ((self.0 >> 33) as u32) % below
-    }
-}
-
-fn word(kind: u32, left: u32, right: u32) -> u32 {
-    kind << 28 | left << 14 | right
-}
-
-// A table of n words of the given kinds in which each word uses the one before it, and another.
-fn mixed(n: usize, kinds: &[u32]) -> Vec<u32> {
-    let mut numbers = Numbers(1);
-    let mut table: Vec<u32> = vec![word(3, 0, 1)];
-    while table.len() < n {
-        let last = table.len() as u32;
-        let other = 1 + numbers.next(last);
-        let kind = kinds[numbers.next(kinds.len() as u32) as usize];
-        table.push(match kind {
-            7 | 12..=14 => word(kind, 0, last),
-            _ if numbers.next(2) == 0 => word(kind, last, other),
-            _ => word(kind, other, last),
-        });
-    }
-    table
-}
-
-fn recording(n: usize) -> Vec<u32> {
-    let mut numbers = Numbers(2);
-    (0..n).map(|_| (numbers.next(8) != 0) as u32 | ((numbers.next(64) == 0) as u32) << 1).collect()
-}
-
-// The least time of one call, in nanoseconds. The call is made once first, and has to be accepted.
-fn least(mut call: impl FnMut() -> (u32, usize)) -> f64 {
-    assert_eq!(call(), (0, 0), "the call is accepted");
-    let mut best = f64::MAX;
-    for _ in 0..9 {
-        let start = Instant::now();
-        let mut calls = 0u32;
-        while start.elapsed().as_millis() < 20 {
-            call();
-            calls += 1;
-        }
-        best = best.min(start.elapsed().as_nanos() as f64 / calls as f64);
-    }
-    best
-}
-
-const PLAIN: [u32; 7] = [5, 6, 7, 8, 9, 10, 11];
-const WRITTEN: [u32; 11] = [5, 6, 7, 8, 9, 10, 11, 12, 13, 14, 15];
+// The slices that the program of document 01 lends.
+const PLAIN_ROOM: usize = 130;
+const FORM_ROOM: usize = 4096;
 
 fn main() {
-    let mut figures = Vec::new();
-    for n in [64, 1024, 16383] {
-        let table = mixed(n, &PLAIN);
-        let t = least(|| check(&table, true, 16383));
-        println!("check, {n} words: {:.1} us, {:.2} ns a word", t / 1e3, t / n as f64);
-        figures.push(t / n as f64);
+    println!("each figure the least of {} rounds after a warm-up; slices are lent again, not cleared between", timing::ROUNDS);
+    let asked: Vec<String> = std::env::args().skip(1).collect();
+    let rules = || rules::read(include_str!("rules.txt"));
+    let sections: [(&str, &str, &dyn Fn()); 6] = [
+        ("same", "the same replies and slices", &|| println!("calls by their reply, 0 for accepted: {:?}", agree::all(&rules()))),
+        ("check", "check and plain form, beside the hash-map program", &short_steps),
+        ("form", "whole way and normal form, beside the hash-map program", &|| forms(rules())),
+        ("judge", "the judge", &judges),
+        ("growth", "how cost grows", &growth),
+        ("stack", "stack, bytes written to", &stacks),
+    ];
+    for (name, title, print) in sections {
+        if asked.is_empty() || asked.iter().any(|section| section == name) {
+            println!("== {title} ==");
+            print();
+        }
     }
-    println!("check, a word at 16383 over a word at 1024: {:.2}", figures[2] / figures[1]);
+}
 
-    for n in [1024, 16383] {
-        let table = mixed(n, &PLAIN);
-        let mut bytes = vec![0u8; n];
-        let t = least(|| classify(&table, &mut bytes));
-        println!("class, {n} words: {:.1} us, {:.2} ns a word", t / 1e3, t / n as f64);
+fn short_steps() {
+    checks();
+    plain_forms();
+}
+
+fn forms(rules: Vec<Rule>) {
+    if !library::FORMS {
+        return println!("the library has no C names for the normal form and the whole way");
     }
+    whole_way(&accepted(rules));
+    normal_forms();
+}
 
+fn checks() {
+    for n in [1, 3, 8, 64] {
+        let table = mixed(n, &PLAIN);
+        let ours = || library::check(black_box(&table), true, 16383);
+        let theirs = || hashmap::check(black_box(&table), true, 16383);
+        assert_eq!(ours(), theirs());
+        let (o, t) = pair(ours, theirs);
+        println!("check, {n} words: hash map {t:.0} ns, here {o:.0} ns, ratio {:.2}", o / t);
+    }
+}
+
+fn plain_forms() {
     for n in [8, 64] {
         let table = mixed(n, &WRITTEN);
-        let mut result = vec![0u32; 130];
-        let t = least(|| plain(&table, &mut result));
-        println!("plain form, {n} words: {:.1} us, {:.1} ns a word", t / 1e3, t / n as f64);
+        let (mut result, mut result2) = (vec![0; PLAIN_ROOM], vec![0; PLAIN_ROOM]);
+        let ours = || library::plain_form(black_box(&table), &mut result);
+        let theirs = || hashmap::plain_form(black_box(&table), &mut result2);
+        let (o, t) = pair(ours, theirs);
+        println!("plain form, {n} words: hash map {:.2} us, here {:.2} us, ratio {:.2}", t / 1e3, o / 1e3, o / t);
     }
+}
 
+// The rules that both steps accept.
+fn accepted(rules: Vec<Rule>) -> Vec<Rule> {
+    let (mut plain, mut form) = (vec![0; PLAIN_ROOM], vec![0; FORM_ROOM]);
+    let (mut lengths, mut refused, mut kept) = (Vec::new(), Vec::new(), Vec::new());
+    let all = rules.len();
+    for rule in rules {
+        match hashmap::rule_form(&rule.table, &mut plain, &mut form) {
+            Ok(n) => {
+                lengths.push(n);
+                kept.push(rule);
+            }
+            Err((number, place)) => refused.push(format!("{} ({number} at {place})", rule.name)),
+        }
+    }
+    lengths.sort();
+    println!("rules of source 000 with negations: {all}, accepted by both steps: {}", kept.len());
+    println!("  refused: {}", refused.join(", "));
+    println!("  words of the forms: {} to {}, median {}", lengths[0], lengths[lengths.len() - 1], lengths[lengths.len() / 2]);
+    kept
+}
+
+fn whole_way(rules: &[Rule]) {
+    let (mut plain, mut form) = (vec![0; PLAIN_ROOM], vec![0; FORM_ROOM]);
+    let (mut plain2, mut form2) = (plain.clone(), form.clone());
+    let mut times = Vec::new();
+    for rule in rules {
+        let ours = || library::rule_form(black_box(&rule.table), &mut plain, &mut form);
+        let theirs = || hashmap::rule_form(black_box(&rule.table), &mut plain2, &mut form2);
+        let (o, t) = pair(ours, theirs);
+        times.push((o, t, &rule.name));
+    }
+    times.sort_by(|x, y| x.1.total_cmp(&y.1));
+    for (which, at) in [("shortest", 0), ("median", times.len() / 2), ("longest", times.len() - 1)] {
+        let (o, t, name) = times[at];
+        println!("whole way, {which} rule ({name}): hash map {:.2} us, here {:.2} us, ratio {:.2}", t / 1e3, o / 1e3, o / t);
+    }
+    let slower = times.iter().filter(|(o, t, _)| t < o).count();
+    let worst = times.iter().max_by(|x, y| (x.0 / x.1).total_cmp(&(y.0 / y.1))).unwrap();
+    let (o, t) = times.iter().fold((0.0, 0.0), |sum, time| (sum.0 + time.0, sum.1 + time.1));
+    println!(
+        "whole way, all {}: slower on {slower}, worst ratio {:.2} ({}), ratio of sums {:.2}",
+        times.len(), worst.0 / worst.1, worst.2, o / t
+    );
+}
+
+fn normal_forms() {
+    let nested = (1..8).map(|k| ("nested", shapes::nested(k)));
+    for (name, table) in nested.chain(shapes::eight_until_like()) {
+        let fixpoints = table.iter().filter(|&w| (8..=11).contains(&(w >> 28))).count();
+        let (mut form, mut form2) = (vec![0; FORM_ROOM], vec![0; FORM_ROOM]);
+        let length = library::normal_form(&table, &mut form);
+        assert_eq!(length, hashmap::normal_form(&table, &mut form2));
+        assert!(form == form2, "the forms are the same");
+        let ours = || library::normal_form(black_box(&table), &mut form);
+        let theirs = || hashmap::normal_form(black_box(&table), &mut form2);
+        let (o, t) = pair(ours, theirs);
+        println!(
+            "normal form, {fixpoints} until-like words, {name}, {} words to {}: hash map {:.1} us, here {:.1} us, ratio {:.2}",
+            table.len(), length.expect("it fits"), t / 1e3, o / 1e3, o / t
+        );
+    }
+}
+
+// Kinds 5 to 11 mixed and loop start 0; the same over 32 letters at random, where few rows are constant; and written tables with a
+// later loop start.
+fn judges() {
+    judge("kinds 5 to 11", &mixed(16383, &PLAIN), &recording(4096), 0);
+    judge("kinds 5 to 11, 32 letters at random", &over_letters(32, 16383, &PLAIN), &noise(4096), 0);
+    judge("kinds 5 to 15", &mixed(16383, &WRITTEN), &recording(4096), 1365);
+}
+
+// Beside writing and copying to the same memory, and beside the judge that goes moment by moment.
+fn judge(name: &str, table: &[u32], samples: &[u32], start: usize) {
+    let mut scratch = vec![7u64; 16383 * 64];
+    let mut expected = scratch.clone();
+    let reply = moments::judge(table, samples, start, &mut expected);
+    assert_eq!(library::judge(table, samples, start, &mut scratch), reply);
+    assert!(scratch == expected, "the rows are the same");
+    let fast = in_turn(
+        100,
+        &mut scratch,
+        [
+            &mut |s| assert_eq!(library::judge(black_box(table), samples, start, s), reply),
+            &mut |s| black_box(&mut s[..]).fill(black_box(7)),
+            &mut |s| black_box(&mut s[..]).copy_from_slice(black_box(&expected)),
+        ],
+    );
+    let slow = in_turn(4, &mut scratch, [&mut |s| assert_eq!(moments::judge(black_box(table), samples, start, s), reply)]);
+    let time = least_ms(&fast, 0);
+    println!(
+        "judge, 16383 words x 4096 samples, {name}, loop start {start}: {time:.2} ms, {:.2} ns a row word",
+        time * 1e6 / (16383.0 * 64.0)
+    );
+    for (i, what) in [(1, "writing"), (2, "copying to")] {
+        println!("  {what} the same memory: {:.2} ms, ratio {:.1}", least_ms(&fast, i), ratio(&fast, i));
+    }
+    println!("  moment by moment: {:.0} ms, ratio {:.3}", least_ms(&slow, 0), time / least_ms(&slow, 0));
+}
+
+fn growth() {
+    words();
+    rows();
+}
+
+fn words() {
+    for n in [64, 1024, 16383] {
+        let table = mixed(n, &PLAIN);
+        let t = least(|| library::check(black_box(&table), true, 16383));
+        println!("check, {n} words: {:.1} us, {:.2} ns a word", t / 1e3, t / n as f64);
+    }
+    for n in [64, 1024, 16383] {
+        let table = mixed(n, &PLAIN);
+        let mut bytes = vec![0; n];
+        let t = least(|| library::classify(black_box(&table), &mut bytes));
+        println!("class, {n} words: {:.1} us, {:.2} ns a word", t / 1e3, t / n as f64);
+    }
+}
+
+// Of an operator in a table of 1,000 words over 4 letters at random, the check of the table included.
+fn rows() {
     let names = ["and", "or", "X", "U", "W", "R", "M", "not", "F", "G", "implies"];
     for (kind, name) in (5..).zip(names) {
-        let table = mixed(1000, &[kind]);
+        let table = over_letters(4, 1000, &[kind]);
         print!("row of {name}, ns a row word:");
         for n in [64, 640, 4096] {
-            let samples = recording(n);
+            let samples = noise(n);
             let words = (n + 63) / 64;
             let mut scratch = vec![0u64; 1000 * words];
-            let t = least(|| judge(&table, &samples, n / 3, &mut scratch));
+            let t = least(|| library::judge(black_box(&table), &samples, n / 3, &mut scratch));
             print!(" {:.1} at {n} samples;", t / (1000 * words) as f64);
         }
         println!();
     }
+}
 
-    let table = mixed(16383, &WRITTEN);
-    let samples = recording(4096);
-    let mut scratch = vec![0u64; 16383 * 64];
-    let t = least(|| judge(&table, &samples, 1365, &mut scratch));
-    println!("judge, 16383 words x 4096 samples: {:.2} ms, {:.2} ns a row word", t / 1e6, t / (16383.0 * 64.0));
+// The slices are on the heap: what is counted is the call's own.
+fn stacks() {
+    for n in [1, 64, 130, 16383] {
+        let table = mixed(n, &PLAIN);
+        println!("check, {n} words: {}", stack::bytes(|| library::check(&table, true, 16383).unwrap()));
+    }
+    for n in [1, 16383] {
+        let table = mixed(n, &PLAIN);
+        println!("class, {n} words: {}", stack::bytes(|| library::classify(&table, &mut vec![0; n]).unwrap()));
+        let judge = || library::judge(&table, &recording(4096), 0, &mut vec![0; n * 64]).unwrap();
+        println!("judge, {n} words x 4096 samples: {}", stack::bytes(judge));
+    }
+    for n in [1, 64] {
+        let table = shapes::deep(n, 0);
+        println!("plain form, {n} words: {}", stack::bytes(|| library::plain_form(&table, &mut vec![0; PLAIN_ROOM]).unwrap()));
+    }
+    if !library::FORMS {
+        return;
+    }
+    for n in [1, 64, 130] {
+        let table = shapes::deep(n, 8);
+        println!("normal form, {n} words: {}", stack::bytes(|| library::normal_form(&table, &mut vec![0; FORM_ROOM])));
+    }
+    for n in [1, 64] {
+        let table = shapes::deep(n, 8);
+        let form = || library::rule_form(&table, &mut vec![0; PLAIN_ROOM], &mut vec![0; FORM_ROOM]);
+        println!("whole way, {n} words: {}", stack::bytes(form));
+    }
 }

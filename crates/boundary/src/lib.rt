@@ -3,18 +3,21 @@
 ghost use mathlib.Core.Path.{_≡_};
 ghost use Prim.Native.Nat.{min};
 ghost use lib.ListN.{length};
-ghost use Rattle.table.specs.Refusals.{first, outcomeNumber, outcomePlace};
+ghost use Rattle.table.specs.Refusals.{outcomeNumber, outcomePlace};
+ghost use Rattle.table.specs.Limits.{desk};
 ghost use Rattle.table.specs.Checks.{checked};
-ghost use Rattle.table.specs.StepChecks.{classChecks};
-ghost use Rattle.classes.specs.Result.{classResult};
-ghost use Rattle.nnf.specs.Result.{plainAnswer, plainResult};
-ghost use Rattle.evaluation.specs.Judging.{judgeOutcome, scratchAfter};
+ghost use Rattle.rows.specs.Row.{rowWords};
+ghost use Rattle.table.specs.Frame.{classStep, plainStep, normalStep, outcomeOf, answerOf, resultOf};
+ghost use Rattle.pipeline.specs.Whole.{wholeAnswer, wholeResult};
+ghost use Rattle.evaluation.specs.Judging.{judgeOutcome, rowOutcome, scratchAfter};
 ghost use Rattle.evaluation.specs.Judging.{reply as judgeReply};
-ghost use Rattle.boundary.specs.Replies.{plainNumber, plainWords, plainPlace};
-ghost use Rattle.boundary.specs.Replies.{judgedNumber, judgedHolds, judgedMoments, judgedFailing, judgedPlace, JudgeReply};
+ghost use Rattle.boundary.specs.Replies.{FormReply, RowReply};
+ghost use Rattle.evaluation.specs.Answers.{said};
+ghost use Rattle.boundary.specs.Replies.{JudgeReply};
 use evaluation::answer::Judgement;
 use evaluation::tally::Tally;
-use nnf::Plain;
+use table::answer;
+use table::answer::Answer;
 use table::refusal;
 use table::refusal::Outcome;
 
@@ -22,16 +25,9 @@ fn reply(o: Outcome, place: &mut usize) -> u32
     ensures { λ r. ⌜ r ≡ outcomeNumber o ⌝ }
     ensures { λ r. ⌜ now (place .exit) ≡ outcomePlace o ⌝ }
 {
-    match o {
-        Outcome::Accepted => {
-            *place = 0;
-            0
-        }
-        Outcome::Refused(r) => {
-            *place = refusal::place(r);
-            refusal::number(r)
-        }
-    }
+    let report = refusal::outcome_report(o);
+    *place = report.1;
+    report.0
 }
 
 #[no_mangle]
@@ -45,33 +41,24 @@ pub extern "C" fn showrule_check(table: &[u32], plain: bool, limit: usize, place
 // One byte a word.
 #[no_mangle]
 pub extern "C" fn showrule_classify(table: &[u32], bytes: &mut [u8], place: &mut usize) -> u32
-    ensures { λ r. ⌜ r ≡ outcomeNumber (first (classChecks (now (table .entry)) (length (now (bytes .entry))))) ⌝ }
-    ensures { λ r. ⌜ now (place .exit) ≡ outcomePlace (first (classChecks (now (table .entry)) (length (now (bytes .entry))))) ⌝ }
-    ensures { λ r. ⌜ now (bytes .exit) ≡ classResult (now (table .entry)) (now (bytes .entry)) ⌝ }
+    ensures { λ r. ⌜ r ≡ outcomeNumber (outcomeOf classStep (now (table .entry)) (length (now (bytes .entry)))) ⌝ }
+    ensures { λ r. ⌜ now (place .exit) ≡ outcomePlace (outcomeOf classStep (now (table .entry)) (length (now (bytes .entry)))) ⌝ }
+    ensures { λ r. ⌜ now (bytes .exit) ≡ resultOf classStep (now (table .entry)) (now (bytes .entry)) ⌝ }
 {
     reply(classes::classify(table, bytes), place)
 }
 
-fn plain_reply(p: Plain, words: &mut usize, place: &mut usize) -> u32
-    ensures { λ r. ⌜ r ≡ plainNumber p ⌝ }
-    ensures { λ r. ⌜ now (words .exit) ≡ plainWords p ⌝ }
-    ensures { λ r. ⌜ now (place .exit) ≡ plainPlace p ⌝ }
+// How many words a form has, or the refusal, in lent numbers.
+fn form_reply(a: Answer, words: &mut usize, place: &mut usize) -> u32
+    ensures { λ r. ⌜ FormReply a r (now (words .exit)) (now (place .exit)) ⌝ }
 {
-    match p {
-        Plain::Form(n) => {
-            *words = n;
-            *place = 0;
-            0
-        }
-        Plain::Refused(r) => {
-            *words = 0;
-            *place = refusal::place(r);
-            refusal::number(r)
-        }
-    }
+    let report = answer::report_of(a);
+    *words = answer::words_of(a);
+    *place = report.1;
+    report.0
 }
 
-// The plain form at the front of the result, and how many words it has.
+// The plain form of a written table, at the front of the result.
 #[no_mangle]
 pub extern "C" fn showrule_plain(
     table: &[u32],
@@ -79,12 +66,46 @@ pub extern "C" fn showrule_plain(
     words: &mut usize,
     place: &mut usize,
 ) -> u32
-    ensures { λ r. ⌜ r ≡ plainNumber (plainAnswer (now (table .entry)) (length (now (result .entry)))) ⌝ }
-    ensures { λ r. ⌜ now (words .exit) ≡ plainWords (plainAnswer (now (table .entry)) (length (now (result .entry)))) ⌝ }
-    ensures { λ r. ⌜ now (place .exit) ≡ plainPlace (plainAnswer (now (table .entry)) (length (now (result .entry)))) ⌝ }
-    ensures { λ r. ⌜ now (result .exit) ≡ plainResult (now (table .entry)) (now (result .entry)) ⌝ }
+    ensures { λ r. ⌜ FormReply
+        (answerOf (plainStep desk) (now (table .entry)) (length (now (result .entry))))
+        r (now (words .exit)) (now (place .exit)) ⌝ }
+    ensures { λ r. ⌜ now (result .exit) ≡ resultOf (plainStep desk) (now (table .entry)) (now (result .entry)) ⌝ }
 {
-    plain_reply(nnf::plain_form(table, result), words, place)
+    form_reply(nnf::plain_form(table, result), words, place)
+}
+
+// The normal form of a plain table, at the front of the result.
+#[no_mangle]
+pub extern "C" fn showrule_normal(
+    table: &[u32],
+    result: &mut [u32],
+    words: &mut usize,
+    place: &mut usize,
+) -> u32
+    ensures { λ r. ⌜ FormReply
+        (answerOf (normalStep desk) (now (table .entry)) (length (now (result .entry))))
+        r (now (words .exit)) (now (place .exit)) ⌝ }
+    ensures { λ r. ⌜ now (result .exit) ≡ resultOf (normalStep desk) (now (table .entry)) (now (result .entry)) ⌝ }
+{
+    form_reply(normal_form::normalise(table, result), words, place)
+}
+
+// The whole way: the plain form of a written table in one slice, and its normal form in the other.
+#[no_mangle]
+pub extern "C" fn showrule_form(
+    table: &[u32],
+    plain: &mut [u32],
+    result: &mut [u32],
+    words: &mut usize,
+    place: &mut usize,
+) -> u32
+    ensures { λ r. ⌜ FormReply
+        (wholeAnswer desk (now (table .entry)) (length (now (plain .entry))) (length (now (result .entry))))
+        r (now (words .exit)) (now (place .exit)) ⌝ }
+    ensures { λ r. ⌜ now (plain .exit) ≡ resultOf (plainStep desk) (now (table .entry)) (now (plain .entry)) ⌝ }
+    ensures { λ r. ⌜ now (result .exit) ≡ wholeResult desk (now (table .entry)) (length (now (plain .entry))) (now (result .entry)) ⌝ }
+{
+    form_reply(pipeline::normal_form(table, plain, result), words, place)
 }
 
 fn judge_reply(
@@ -94,11 +115,11 @@ fn judge_reply(
     failing: &mut usize,
     place: &mut usize,
 ) -> u32
-    ensures { λ r. ⌜ r ≡ judgedNumber j ⌝ }
-    ensures { λ r. ⌜ now (holds .exit) ≡ judgedHolds j ⌝ }
-    ensures { λ r. ⌜ now (moments .exit) ≡ judgedMoments j ⌝ }
-    ensures { λ r. ⌜ now (failing .exit) ≡ judgedFailing j ⌝ }
-    ensures { λ r. ⌜ now (place .exit) ≡ judgedPlace j ⌝ }
+    ensures { λ r. ⌜ r ≡ said j .number ⌝ }
+    ensures { λ r. ⌜ now (holds .exit) ≡ said j .holds ⌝ }
+    ensures { λ r. ⌜ now (moments .exit) ≡ said j .moments ⌝ }
+    ensures { λ r. ⌜ now (failing .exit) ≡ said j .failing ⌝ }
+    ensures { λ r. ⌜ now (place .exit) ≡ said j .place ⌝ }
 {
     match j {
         Judgement::Judged {
@@ -116,8 +137,9 @@ fn judge_reply(
             *holds = false;
             *moments = 0;
             *failing = 0;
-            *place = refusal::place(r);
-            refusal::number(r)
+            let report = refusal::report_of(r);
+            *place = report.1;
+            report.0
         }
     }
 }
@@ -154,4 +176,47 @@ pub extern "C" fn showrule_judge(
     *held = after.held;
     let answer = j.answer;
     judge_reply(answer, holds, moments, failing, place)
+}
+
+// The 64-bit words of a row of so many samples.
+fn row_words(samples: usize) -> usize
+    ensures { λ r. ⌜ r ≡ rowWords samples ⌝ }
+{
+    samples / 64 + (samples % 64 + 63) / 64
+}
+
+// The row call: which part of the scratch is the rule's own row, by its first word and its length.
+#[no_mangle]
+pub extern "C" fn showrule_row(
+    table: &[u32],
+    samples: &[u32],
+    start: usize,
+    scratch: &mut [u64],
+    from: &mut usize,
+    words: &mut usize,
+    place: &mut usize,
+) -> u32
+    ensures { λ r. ⌜ RowReply
+        (rowOutcome (now (table .entry)) (now (samples .entry)) start (now (scratch .entry))) (length (now (table .entry))) (length (now (samples .entry)))
+        r (now (from .exit)) (now (words .exit)) (now (place .exit)) ⌝ }
+    ensures { λ r. ⌜ now (scratch .exit) ≡ scratchAfter
+        (rowOutcome (now (table .entry)) (now (samples .entry)) start (now (scratch .entry)))
+        (now (table .entry)) (now (samples .entry)) start (now (scratch .entry)) ⌝ }
+{
+    match evaluation::fill(table, samples, start, scratch) {
+        Outcome::Refused(why) => {
+            *from = 0;
+            *words = 0;
+            let report = refusal::report_of(why);
+            *place = report.1;
+            report.0
+        }
+        Outcome::Accepted => {
+            let width = row_words(samples.len());
+            *from = (table.len() - 1) * width;
+            *words = width;
+            *place = 0;
+            0
+        }
+    }
 }

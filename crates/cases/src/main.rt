@@ -1,15 +1,14 @@
-// The case runner: calls the steps on the cases that document 01 names, and prints what comes back. What it writes is held
-// to the file stdout, which reference/expected.py makes from an implementation written apart.
-mod class_cases;
-mod judge_cases;
-mod meaning;
-mod plain_cases;
-mod reading_cases;
+// The case runner: reads the cases that the reference writes to its file stdin, calls the steps under their C names, and prints a line
+// for each: the number and the place, the lent numbers, and a sum over the whole of every lent slice. What it prints is held to the file
+// stdout, which the reference, an implementation written apart, writes too (rust/reference, the program `cases`).
+mod input;
 mod show;
+mod steps;
+mod sum;
 
 fn main() {
-    reading_cases::run();
-    class_cases::run();
-    plain_cases::run();
-    judge_cases::run();
+    let mut turns: usize = 100000;
+    while 0 < turns && steps::one() {
+        turns -= 1;
+    }
 }

@@ -1,6 +1,3 @@
 -- The class step's lemmas.
-pub mod Shifts
-pub mod ShapeByte
-pub mod Words
-pub mod Outcomes
+pub mod Room
 pub mod Promise

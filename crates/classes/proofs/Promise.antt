@@ -10,25 +10,23 @@ use Rattle.logic.specs.ClassByte.{classByte}
 use Rattle.logic.proofs.Hierarchy.ClassBit.{class-bit, classByte-lt}
 use Rattle.table.specs.declared.refusal.Outcome.{Outcome}
 use Rattle.table.specs.declared.refusal.Outcome.the-variants.{Accepted}
-use Rattle.table.specs.Refusals.{first}
 use Rattle.table.specs.Table.{formulaOf, formulas}
 use Rattle.table.specs.Steps.{classBytes}
-use Rattle.table.specs.StepChecks.{classChecks}
-use Rattle.classes.specs.Result.{resultBy, classResult}
-use Rattle.classes.proofs.Words.{length-classBytes, classBytes-at}
+use Rattle.table.specs.Frame.{classStep, outcomeOf, resultBy, resultOf}
+use Rattle.class_bytes.proofs.Words.{length-classBytes, classBytes-at}
 
-module _ (t bytes : List ℕ) (accepted : first (classChecks t (length bytes)) ≡ Accepted) (j : ℕ) (h : j < length t) where
+module _ (t bytes : List ℕ) (accepted : outcomeOf classStep t (length bytes) ≡ Accepted) (j : ℕ) (h : j < length t) where
   -- the byte at index j is the class byte of word number j + 1
-  pub byte-of-word : getD (classResult t bytes) j 0 ≡ classByte (formulaOf (formulas t) (suc j))
-  unfolding classResult formulaOf
+  pub byte-of-word : getD (resultOf classStep t bytes) j 0 ≡ classByte (formulaOf (formulas t) (suc j))
+  unfolding resultOf formulaOf
   byte-of-word =
-      ap (λ (o : Outcome). getD (resultBy o t bytes) j 0) accepted
-      ∙ List·getD-append (classBytes t) (drop (length t) bytes) 0 j (omega (arith, length-classBytes t))
+      ap (λ (o : Outcome). getD (resultBy o (classBytes t) bytes) j 0) accepted
+      ∙ List·getD-append (classBytes t) (drop (length (classBytes t)) bytes) 0 j (omega (arith, length-classBytes t))
       ∙ classBytes-at t j h
 
-  pub class-promise : (b : ℕ) → (getD (classResult t bytes) j 0 / 2 ^ b % 2 ≡ 1) ↔ Class b (formulaOf (formulas t) (suc j))
+  pub class-promise : (b : ℕ) → (getD (resultOf classStep t bytes) j 0 / 2 ^ b % 2 ≡ 1) ↔ Class b (formulaOf (formulas t) (suc j))
   class-promise b = rw byte-of-word (class-bit b (formulaOf (formulas t) (suc j)))
 
   -- bit 7 is always 0
-  pub byte-lt : getD (classResult t bytes) j 0 < 128
+  pub byte-lt : getD (resultOf classStep t bytes) j 0 < 128
   byte-lt = rw byte-of-word (classByte-lt (formulaOf (formulas t) (suc j)))

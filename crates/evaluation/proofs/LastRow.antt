@@ -3,6 +3,7 @@ use Prim.Native.Nat.{ℕ, suc, _+_, _-_, _*_, _≤_, _<_}
 use mathlib.Core.Path.{_≡_, refl, sym, ap, ap₂, subst, _∙_}
 use mathlib.Core.Bool.{Bool, false, cond}
 use mathlib.Core.List.{List, []}
+use native.Mathlib.Nat.{zero-add}
 use native.Mathlib.Omega.{arith}
 use lib.ListN.{length, getD, take, drop}
 use Rattle.logic.specs.Formula.{Formula, const}
@@ -15,7 +16,8 @@ use Rattle.table.specs.declared.refusal.Outcome.the-variants.{Accepted, Refused
 use Rattle.table.specs.declared.refusal.Refusal.{Refusal}
 use Rattle.table.specs.Refusals.{first}
 use Rattle.table.specs.Table.{formulaOf, formulas, rule}
-use Rattle.table.specs.StepChecks.{rowWords, tallyChecks}
+use Rattle.rows.specs.Row.{rowWords}
+use Rattle.evaluation.specs.Checks.{tallyChecks}
 use Rattle.table.proofs.First.{first-passed}
 use Rattle.table.proofs.Formulas.{length-formulas}
 use Rattle.evaluation.specs.declared.tally.Tally.{Tally}
@@ -23,7 +25,7 @@ use Rattle.evaluation.specs.declared.answer.Judgement.{Judgement}
 use Rattle.evaluation.specs.declared.answer.Judgement.the-variants.{Judged as JudgedAs, Refused as NotJudged}
 use Rattle.evaluation.specs.declared.answer.Judged.{Judged}
 use Rattle.evaluation.specs.Tallies.{isFull, counted, tallyAfter}
-use Rattle.evaluation.specs.Judging.{lassoOf, rowOf, rowsThen, judgement, replyBy, rowOutcome, judgeOutcome, reply, scratchAfter, lastRow}
+use Rattle.evaluation.specs.Judging.{lassoOf, rowOf, rowsThen, judgement, replyBy, rowOutcome, judgeOutcome, reply, scratchAfter, lastRow, partAt}
 use Rattle.evaluation.proofs.Outcomes.{Judgeable, judgeable, judge-both}
 use Rattle.evaluation.proofs.Scratch.{width, row-part}
 use Rattle.evaluation.proofs.WordRow.{Inside, lasso-inside, accepted-facts, part-small, part-end, part-for}
@@ -32,7 +34,7 @@ use Rattle.evaluation.proofs.WordRow.{Inside, lasso-inside, accepted-fa
 pub judge-rows : (t samples : List ℕ) (start : ℕ) (s : List ℕ) (tally : Tally)
     → judgeOutcome t samples start s tally ≡ Accepted → rowOutcome t samples start s ≡ Accepted
 unfolding judgeOutcome rowOutcome
-judge-rows t samples start s tally e = judge-both t (length samples) start (length s) (tally .judged) (tally .held) e .0
+judge-rows t samples start s tally e = judge-both t (length samples) start (length s) tally e .0
 
 -- the part of the last row among the rows
 module _ (t samples : List ℕ) (start : ℕ) (s : List ℕ) (words : ℕ)
@@ -77,9 +79,9 @@ module _ (t samples : List ℕ) (start : ℕ) (s : List ℕ) (words : ℕ)
       ∙ ap (rowOf r) (sym last-formula)
 
 -- a tally that is not full is counted on
-tally-counted : (c : Tally) (holds : Bool) → first (tallyChecks (c .judged) (c .held)) ≡ Accepted → tallyAfter c holds ≡ counted c holds
+tally-counted : (c : Tally) (holds : Bool) → first (tallyChecks c) ≡ Accepted → tallyAfter c holds ≡ counted c holds
 unfolding tallyChecks
-tally-counted c holds e = ap (λ (b : Bool). cond b c (counted c holds)) (first-passed (tallyChecks (c .judged) (c .held)) e .0)
+tally-counted c holds e = ap (λ (b : Bool). cond b c (counted c holds)) (first-passed (tallyChecks c) e .0)
 
 -- the three answers, from what is read off a row
 pub judged-is : (f : Sequence) (L : ℕ) (holds : Bool) (moments failing : ℕ) → holds ≡ f 0 → moments ≡ countTrue f L → failing ≡ firstFalse f 0 L
@@ -94,7 +96,7 @@ pub accepted-reply : (t samples : List ℕ) (start : ℕ) (s part : List ℕ) (t
     → j ≡ reply t samples start s tally
 unfolding judgeOutcome reply replyBy rowOf
 accepted-reply t samples start s part tally j e p read =
-    let checks = judge-both t (length samples) start (length s) (tally .judged) (tally .held) e in
+    let checks = judge-both t (length samples) start (length s) tally e in
     let i : Inside samples start = lasso-inside samples start (judgeable t (length samples) start (length s) (checks .0) .inside) in
     let r : Lasso = record { samples = samples; start = start; inside = i .0 } in
     let f : Sequence = truth r (rule t) in
@@ -130,3 +132,12 @@ accepted-part t samples start e = ap (λ (o : Outcome). lastRow o t samples star
 pub refused-part : {o : Outcome} {why : Refusal} (t samples : List ℕ) (start : ℕ) → o ≡ Refused why → [] ≡ lastRow o t samples start
 unfolding lastRow
 refused-part t samples start e = ap (λ (o : Outcome). lastRow o t samples start) (sym e)
+
+pub accepted-at : {o : Outcome} (t samples : List ℕ) (p : ℕ × ℕ) {words : ℕ} → o ≡ Accepted → words ≡ rowWords (length samples)
+    → _≡_ {A = ℕ × ℕ} (p .0, (length t - 1) * words * 8 + p .1) (partAt o t samples p)
+unfolding partAt
+accepted-at t samples p e wide = ap (λ (x : ℕ). (p .0, (length t - 1) * x * 8 + p .1)) wide ∙ ap (λ (o : Outcome). partAt o t samples p) (sym e)
+
+pub refused-at : {o : Outcome} {why : Refusal} (t samples : List ℕ) (p : ℕ × ℕ) → o ≡ Refused why → _≡_ {A = ℕ × ℕ} (p .0, 0 * 8 + p .1) (partAt o t samples p)
+unfolding partAt
+refused-at t samples p e = ap (λ (x : ℕ). (p .0, x)) (zero-add (p .1)) ∙ ap (λ (o : Outcome). partAt o t samples p) (sym e)

@@ -1,129 +1,106 @@
--- The writers' sequences are truth: below the number of samples, each operator over the looped positions is the truth of its formula.
-use Prim.Native.Nat.{ℕ, _≤_, _<_}
-use mathlib.Core.Path.{_≡_, refl, sym, ap₂, subst}
-use mathlib.Core.Logic.{_⊎_, inl, inr, ⊎-elim}
-use mathlib.Core.Bool.{Bool, true, Bool·beq}
+-- What the row of a word holds is the truth of its formula, below the number of samples; and where the word's operands are.
+use Prim.Native.Nat.{ℕ, zero, suc, _+_, _≤_, _<_}
+use mathlib.Core.Path.{_≡_, refl, sym, ap, _∙_}
+use mathlib.Core.Bool.{Bool, true, false, cond, Bool·beq}
 use mathlib.Core.List.{List}
 use native.Mathlib.Omega.{arith}
-use native.Mathlib.Decide.{decLe}
-use lib.ListN.{length, getD}
-use lib.Dec.{eqb}
-use borrow.Author.Tests.{lt-ltb}
-use Rattle.logic.proofs.Numbers.{in-range}
-use Rattle.logic.specs.Formula.{Formula, Unary, Binary, un, bin, next, neg, finally, globally, conj, disj, until, weak, release, strong, implies}
+use native.Mathlib.Nat.{add-zero}
+use lib.ListN.{length, getD, List·getD-eq-default}
+use borrow.Author.Tests.{lt-ltb, eq-eqb, ne-eqb}
+use Rattle.logic.specs.Formula.{Formula, Unary, Binary}
 use Rattle.logic.specs.Lasso.{Lasso, letterIn, place, word}
-use Rattle.logic.specs.Truth.{Sequence, truth}
-use Rattle.logic.proofs.Lasso.Sweep.{until-swept, weak-swept, release-swept, strong-swept, finally-swept, globally-swept, next-swept}
+use Rattle.logic.specs.Truth.{Sequence, Operation, unaryOperation, binaryOperation, looped, truth}
+use Rattle.logic.proofs.Lasso.Sweep.{applied-looped}
 use Rattle.rows.specs.Row.{row}
 use Rattle.rows.specs.Writing.{literal}
 use Rattle.rows.proofs.Rows.{row-ext}
-use Rattle.table.specs.Node.{Shape, none, constant, letter, unary, binary, shape, leftField, rightField}
-use Rattle.table.specs.Table.{formulaBy}
-use Rattle.table.specs.Checks.{isProposition, isOperand}
+use Rattle.table.specs.Node.{Shape, none, constant, letter, unary, binary, kind, left, right, shapes, shape, leftField, rightField}
+use Rattle.table.specs.Table.{formulaBy, formulaOf, wordFormula}
+use Rattle.table.specs.Checks.{isBlank, isOperand, isProposition}
+use Rattle.table.proofs.Accepted.{WellFormedWord}
 use Rattle.evaluation.specs.Judging.{rowOf}
-use Rattle.evaluation.specs.Looped.{loopedUnary, loopedBinary, looped, UnaryKind, BinaryKind}
+use Rattle.evaluation.specs.Looped.{constantly, literally, operation, meaning, rowBy, firstOperand}
 
-module _ (r : Lasso) where
-  unary-truth : (o : Unary) (a : Formula) (i : ℕ) → i < length (r .samples)
-      → truth r (un o a) i ≡ loopedUnary (length (r .samples)) (r .start) o (truth r a) i
-  unfolding truth
-  unary-truth next a i h = next-swept r a i h
-  unary-truth neg a i h = refl
-  unary-truth finally a i h = finally-swept r a i h
-  unary-truth globally a i h = globally-swept r a i h
+-- a number that is none of the n numbers from a on, one by one
+abbrev Avoids : ℕ → ℕ → ℕ → Type 0
+Avoids zero a k = Unit
+Avoids (suc n) a k = Avoids n a k × (k ≡ a + n → ⊥)
 
-  binary-truth : (o : Binary) (a b : Formula) (i : ℕ) → i < length (r .samples)
-      → truth r (bin o a b) i ≡ loopedBinary (length (r .samples)) (r .start) o (truth r a) (truth r b) i
-  unfolding truth
-  binary-truth conj a b i h = refl
-  binary-truth disj a b i h = refl
-  binary-truth until a b i h = until-swept r a b i h
-  binary-truth weak a b i h = weak-swept r a b i h
-  binary-truth release a b i h = release-swept r a b i h
-  binary-truth strong a b i h = strong-swept r a b i h
-  binary-truth implies a b i h = refl
+past : (n a k : ℕ) → Avoids n a k → a ≤ k → a + n ≤ k
+past zero a k h l = rw add-zero l
+past (suc n) a k h l = let m = past n a k (h .0) l in omega (arith, h .1)
 
-  literal-truth : (c : Bool) (n i : ℕ) → i < length (r .samples) → Bool·beq c (letterIn (word r i) n) ≡ literal n c (getD (r .samples) i 0)
-  unfolding word place
-  literal-truth c n i h = rw (lt-ltb i (length (r .samples)) h)
-
-  -- the truth of a word's formula, from that of its operands' formulas
-  pub looped-truth : (k : Shape) (n : ℕ) (a b : Formula) (i : ℕ) → i < length (r .samples)
-      → truth r (formulaBy k n a b) i ≡ looped (length (r .samples)) (r .start) (r .samples) k n (truth r a) (truth r b) i
-  unfolding truth
-  looped-truth none n a b i h = refl
-  looped-truth (constant c) n a b i h = refl
-  looped-truth (letter c) n a b i h = literal-truth c n i h
-  looped-truth (unary o) n a b i h = unary-truth o b i h
-  looped-truth (binary o) n a b i h = binary-truth o a b i h
-
--- the row of a word's formula
-pub looped-row : (r : Lasso) (k : Shape) (n : ℕ) (a b : Formula)
-    → rowOf r (formulaBy k n a b) ≡ row (length (r .samples)) (looped (length (r .samples)) (r .start) (r .samples) k n (truth r a) (truth r b))
-unfolding rowOf
-looped-row r k n a b = row-ext (length (r .samples)) _ _ (looped-truth r k n a b)
-
--- ---- for the writers
-
--- fields that are known are those that the contract names
-pub by-fields : {k l n m : ℕ} (L s : ℕ) (samples : List ℕ) (f g : Sequence) → k ≡ l → n ≡ m
-    → row L (looped L s samples (shape k) n f g) ≡ row L (looped L s samples (shape l) m f g)
-by-fields L s samples f g e d = ap₂ (λ (k n : ℕ). row L (looped L s samples (shape k) n f g)) e d
-
-pub by-kind : {kind k : ℕ} (L s : ℕ) (samples : List ℕ) (n : ℕ) (f g : Sequence) → kind ≡ k
-    → row L (looped L s samples (shape k) n f g) ≡ row L (looped L s samples (shape kind) n f g)
-by-kind L s samples n f g e = by-fields L s samples f g (sym e) refl
-
--- constants and letters
-pub constant-kind : (k : ℕ) → k < 3 → (L s : ℕ) (samples : List ℕ) (n : ℕ) (f g : Sequence)
-    → row L (λ (i : ℕ). eqb k 2) ≡ row L (looped L s samples (shape k) n f g)
+-- kinds 2 to 15 left out, what is left stands for false or for nothing
+pub left-over : (k : ℕ) → Avoids 14 2 k → constantly false ≡ meaning (shape k)
 unfolding shape
-constant-kind k h L s samples n f g =
-    in-range (λ (k : ℕ). row L (λ (i : ℕ). eqb k 2) ≡ row L (looped L s samples (shape k) n f g)) 0 2 k (omega arith) (omega arith)
-    (refl, (refl, refl))
+left-over zero h = refl
+left-over (suc zero) h = refl
+left-over (suc (suc k)) h = rw (List·getD-eq-default shapes none {n = suc (suc k)} (past 14 2 (suc (suc k)) h (omega arith)))
 
-pub letter-kind : (k : ℕ) → 3 ≤ k → k ≤ 4 → (L s : ℕ) (samples : List ℕ) (n : ℕ) (f g : Sequence)
-    → row L (λ (i : ℕ). literal n (eqb k 3) (getD samples i 0)) ≡ row L (looped L s samples (shape k) n f g)
-unfolding shape
-letter-kind k h l L s samples n f g =
-    in-range (λ (k : ℕ). row L (λ (i : ℕ). literal n (eqb k 3) (getD samples i 0)) ≡ row L (looped L s samples (shape k) n f g)) 3 1 k h l
-    (refl, refl)
+-- the number of an earlier word
+abbrev pub Earlier : ℕ → ℕ → Type 0
+Earlier n m = (1 ≤ m) × (m < n)
 
--- what the fields of a kind hold
-pub letter-field : (k : ℕ) → 3 ≤ k → k ≤ 4 → isProposition (rightField (shape k)) ≡ true
-unfolding shape
-letter-field k h l = in-range (λ (k : ℕ). isProposition (rightField (shape k)) ≡ true) 3 1 k h l (refl, refl)
+module _ (earlier : List ℕ) (n w : ℕ) (formed : WellFormedWord false earlier n w) where
+  -- the one operand stands on both sides, and of two the first on the left
+  first-of-one : (o : Unary) → shape (kind w) ≡ unary o → firstOperand w ≡ right w
+  unfolding firstOperand
+  first-of-one o e = ap (λ (b : Bool). cond b (right w) (left w)) (eq-eqb (left w) 0 (formed .blank-left (ap (λ (k : Shape). isBlank (leftField k)) e)))
 
-pub unary-field : (k : ℕ) → UnaryKind k → isOperand (rightField (shape k)) ≡ true
-unfolding shape
-unary-field k u =
-    ⊎-elim (λ e. rw e) (λ p. in-range (λ (k : ℕ). isOperand (rightField (shape k)) ≡ true) 12 2 k (p .0) (p .1) (refl, (refl, refl))) u
+  left-of-two : (o : Binary) → shape (kind w) ≡ binary o → Earlier n (left w)
+  left-of-two o e = formed .operand-left (ap (λ (k : Shape). isOperand (leftField k)) e)
 
-abbrev TwoOperands : ℕ → Type 0
-TwoOperands k = (isOperand (leftField (shape k)) ≡ true) × (isOperand (rightField (shape k)) ≡ true)
+  first-of-two : (o : Binary) → shape (kind w) ≡ binary o → firstOperand w ≡ left w
+  unfolding firstOperand
+  first-of-two o e = ap (λ (b : Bool). cond b (right w) (left w)) (ne-eqb (left w) 0 (λ q. omega (arith, left-of-two o e)))
 
-pub binary-fields : (k : ℕ) → BinaryKind k → TwoOperands k
-unfolding shape
-binary-fields k u =
-    ⊎-elim (λ p. in-range TwoOperands 5 1 k (p .0) (p .1) ((refl, refl), (refl, refl)))
-    (λ v. ⊎-elim
-    (λ p. in-range TwoOperands 8 3 k (p .0) (p .1) ((refl, refl), ((refl, refl), ((refl, refl), (refl, refl)))))
-    (λ e. subst TwoOperands (sym e) (refl, refl))
-    v)
-    u
+  -- what an operation reads
+  pub operands-earlier : (o : Operation) → operation o ≡ meaning (shape (kind w)) → Earlier n (firstOperand w) × Earlier n (right w)
+  operands-earlier o m = go (shape (kind w)) refl m
+    where
+      right-of : (k : Shape) → shape (kind w) ≡ k → isOperand (rightField k) ≡ true → Earlier n (right w)
+      right-of k e h = formed .operand-right (ap (λ (x : Shape). isOperand (rightField x)) e ∙ h)
 
--- the kinds that are left after the others
-pub last-unary : (k : ℕ) → UnaryKind k → (k ≡ 7 → ⊥) → (k ≡ 12 → ⊥) → (k ≡ 13 → ⊥) → k ≡ 14
-last-unary k u x y z = ⊎-elim (λ e. absurd (x e)) (λ p. omega (arith, p)) u
+      go : (k : Shape) → shape (kind w) ≡ k → operation o ≡ meaning k → Earlier n (firstOperand w) × Earlier n (right w)
+      go none e d = absurd (let z : _≡_ {A = ℕ} 0 1 = cc in omega arith)
+      go (constant c) e d = absurd (let z : _≡_ {A = ℕ} 0 1 = cc in omega arith)
+      go (letter c) e d = absurd (let z : _≡_ {A = ℕ} 0 1 = cc in omega arith)
+      go (unary u) e d = (rw (first-of-one u e) (right-of (unary u) e refl), right-of (unary u) e refl)
+      go (binary u) e d = (rw (first-of-two u e) (left-of-two u e), right-of (binary u) e refl)
 
-pub last-binary : (k : ℕ) → BinaryKind k
-    → (k ≡ 5 → ⊥) → (k ≡ 6 → ⊥) → (k ≡ 8 → ⊥) → (k ≡ 9 → ⊥) → (k ≡ 10 → ⊥) → (k ≡ 11 → ⊥) → k ≡ 15
-last-binary k u a b c d e f = ⊎-elim (λ p. omega (arith, p)) (λ v. ⊎-elim (λ p. omega (arith, p)) (λ q. q) v) u
+  pub letter-known : (c : Bool) → literally c ≡ meaning (shape (kind w)) → (1 ≤ right w) × (right w ≤ 32)
+  letter-known c m = go (shape (kind w)) refl m
+    where
+      go : (k : Shape) → shape (kind w) ≡ k → literally c ≡ meaning k → (1 ≤ right w) × (right w ≤ 32)
+      go none e d = absurd (let z : _≡_ {A = ℕ} 0 1 = cc in omega arith)
+      go (constant b) e d = absurd (let z : _≡_ {A = ℕ} 0 1 = cc in omega arith)
+      go (letter b) e d = formed .letter (ap (λ (k : Shape). isProposition (rightField k)) e)
+      go (unary u) e d = absurd (let z : _≡_ {A = ℕ} 0 1 = cc in omega arith)
+      go (binary u) e d = absurd (let z : _≡_ {A = ℕ} 0 1 = cc in omega arith)
 
--- the kinds of two operands are those that are neither below them nor of one
-pub binary-kind : (k : ℕ) → 5 ≤ k → k < 16 → (k ≡ 7 → ⊥) → (k < 12) ⊎ (15 ≤ k) → BinaryKind k
-binary-kind k h l n = ⊎-elim (λ u. by (decLe k 6) u) (λ u. inr (inr (omega arith)))
-  where
-    by : Dec (k ≤ 6) → k < 12 → BinaryKind k
-    by (yes m) u = inl (h, m)
-    by (no m) u = inr (inl (omega arith, omega arith))
+  -- the row of the word's formula
+  pub word-row : (r : Lasso) (φs : List Formula)
+      → row (length (r .samples)) (rowBy (length (r .samples)) (r .start) (r .samples) (meaning (shape (kind w))) (right w)
+      (truth r (formulaOf φs (firstOperand w))) (truth r (formulaOf φs (right w))))
+      ≡ rowOf r (wordFormula φs w)
+  unfolding rowOf wordFormula truth word place
+  word-row r φs = row-ext (length (r .samples)) _ _ (λ i h. sym (go i h (shape (kind w)) refl))
+    where
+      A : Formula
+      A = formulaOf φs (left w)
+
+      B : Formula
+      B = formulaOf φs (right w)
+
+      go : (i : ℕ) → i < length (r .samples) → (k : Shape) → shape (kind w) ≡ k
+          → truth r (formulaBy k (right w) A B) i
+          ≡ rowBy (length (r .samples)) (r .start) (r .samples) (meaning k) (right w) (truth r (formulaOf φs (firstOperand w))) (truth r B) i
+      go i h none e = refl
+      go i h (constant c) e = refl
+      go i h (letter c) e = rw (lt-ltb i (length (r .samples)) h)
+      go i h (unary o) e =
+          applied-looped r (unaryOperation o) B B i h
+          ∙ ap (λ (m : ℕ). looped (length (r .samples)) (r .start) (unaryOperation o) (truth r (formulaOf φs m)) (truth r B) i) (sym (first-of-one o e))
+      go i h (binary o) e =
+          applied-looped r (binaryOperation o) A B i h
+          ∙ ap (λ (m : ℕ). looped (length (r .samples)) (r .start) (binaryOperation o) (truth r (formulaOf φs m)) (truth r B) i) (sym (first-of-two o e))

@@ -10,7 +10,9 @@ use Rattle.table.specs.declared.refusal.Refusal.{Refusal}
 use Rattle.table.specs.declared.refusal.Outcome.the-variants.{Accepted, Refused}
 use Rattle.table.specs.Refusals.{Check, first}
 use Rattle.table.specs.Checks.{tableChecks, checked}
-use Rattle.table.specs.StepChecks.{recordingChecks, rowWords, scratchChecks, tallyChecks, rowChecks, judgeChecks}
+use Rattle.rows.specs.Row.{rowWords}
+use Rattle.evaluation.specs.Checks.{recordingChecks, scratchChecks, tallyChecks, rowChecks, judgeChecks}
+use Rattle.evaluation.specs.declared.tally.Tally.{Tally}
 use Rattle.table.proofs.First.{Passed, first-passed, first-append-accepted, first-append-refused, first-append-both}
 use Rattle.table.proofs.Accepted.{WellFormed, accepted-well-formed}
 
@@ -54,17 +56,17 @@ module _ (t : List ℕ) (samples start scratch : ℕ) where
       }
 
   -- the judge's checks are the row call's, and then the tally's
-  pub judge-refused : (judged held : ℕ) (why : Refusal) → first (rowChecks t samples start scratch) ≡ Refused why
-      → first (judgeChecks t samples start scratch judged held) ≡ Refused why
+  pub judge-refused : (tally : Tally) (why : Refusal) → first (rowChecks t samples start scratch) ≡ Refused why
+      → first (judgeChecks t samples start scratch tally) ≡ Refused why
   unfolding judgeChecks
-  judge-refused judged held why e = first-append-refused (rowChecks t samples start scratch) (tallyChecks judged held) why e
+  judge-refused tally why e = first-append-refused (rowChecks t samples start scratch) (tallyChecks tally) why e
 
-  pub judge-accepted : (judged held : ℕ) → first (rowChecks t samples start scratch) ≡ Accepted
-      → first (judgeChecks t samples start scratch judged held) ≡ first (tallyChecks judged held)
+  pub judge-accepted : (tally : Tally) → first (rowChecks t samples start scratch) ≡ Accepted
+      → first (judgeChecks t samples start scratch tally) ≡ first (tallyChecks tally)
   unfolding judgeChecks
-  judge-accepted judged held e = first-append-accepted (rowChecks t samples start scratch) (tallyChecks judged held) e
+  judge-accepted tally e = first-append-accepted (rowChecks t samples start scratch) (tallyChecks tally) e
 
-  pub judge-both : (judged held : ℕ) → first (judgeChecks t samples start scratch judged held) ≡ Accepted
-      → (first (rowChecks t samples start scratch) ≡ Accepted) × (first (tallyChecks judged held) ≡ Accepted)
+  pub judge-both : (tally : Tally) → first (judgeChecks t samples start scratch tally) ≡ Accepted
+      → (first (rowChecks t samples start scratch) ≡ Accepted) × (first (tallyChecks tally) ≡ Accepted)
   unfolding judgeChecks
-  judge-both judged held e = first-append-both (rowChecks t samples start scratch) (tallyChecks judged held) .0 e
+  judge-both tally e = first-append-both (rowChecks t samples start scratch) (tallyChecks tally) .0 e

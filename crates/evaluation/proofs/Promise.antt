@@ -1,9 +1,11 @@
 -- Demand 2: in every accepted call, for every word and every position, those of the endless repeat included, the bit of the
 -- word's row at the position's place is 1 if and only if the word's formula holds there by the definition over all later positions.
-use Prim.Native.Nat.{ℕ, _+_, _-_, _*_, _/_, _%_, _^_, _≤_, _<_}
+use Prim.Native.Nat.{ℕ, zero, suc, _+_, _-_, _*_, _/_, _%_, _^_, _≤_, _<_}
+use native.Mathlib.Nat.{add-zero, zero-add, eq-or-lt-of-le}
+use native.Mathlib.Numerals.{add-one}
 use mathlib.Core.Path.{_≡_, refl, sym, ap, subst, _∙_}
-use mathlib.Core.Logic.{_↔_}
-use mathlib.Core.Bool.{Bool, true, false}
+use mathlib.Core.Logic.{_↔_, _⊎_, inl, inr}
+use mathlib.Core.Bool.{Bool, true, false, cond}
 use mathlib.Core.List.{List}
 use native.Mathlib.Decide.{decLt}
 use native.Mathlib.Omega.{arith}
@@ -11,19 +13,21 @@ use lib.ListN.{length, getD, drop, List·getD-eq-default}
 use lib.Dec.{T}
 use Rattle.logic.specs.Formula.{Formula, const}
 use Rattle.logic.specs.Lasso.{Lasso, place, word}
-use Rattle.logic.specs.Semantics.{Holds}
+use Rattle.logic.specs.Semantics.{Predicate, Holds}
 use Rattle.logic.specs.Truth.{Sequence, truth}
 use Rattle.logic.proofs.Lasso.Period.{place-lt, truth-place}
 use Rattle.logic.proofs.Lasso.Truth.{truth-holds}
-use Rattle.rows.specs.Row.{bit, row, words, wordOf}
+use Rattle.rows.specs.Row.{bit, digit, row, rowWords, wordOf, countTrue, firstFalse}
 use Rattle.rows.proofs.Bits.{bit-above, pack-lt}
 use Rattle.rows.proofs.Rows.{row-length, row-word, word-bit}
-use Rattle.table.specs.declared.refusal.Outcome.the-variants.{Accepted}
-use Rattle.table.specs.StepChecks.{rowWords}
-use Rattle.table.specs.Table.{formulas}
+use Rattle.table.specs.declared.refusal.Outcome.{Outcome}
+use Rattle.table.specs.declared.refusal.Outcome.the-variants.{Accepted, Refused}
+use Rattle.table.specs.Refusals.{outcomeNumber, outcomePlace}
+use Rattle.table.specs.Table.{formulas, rule}
 use Rattle.table.proofs.Formulas.{length-formulas}
 use Rattle.evaluation.specs.declared.tally.Tally.{Tally}
-use Rattle.evaluation.specs.Judging.{lassoOf, rowOf, rowNumber, holdsIn, rowsThen, rowOutcome, judgeOutcome, scratchAfter}
+use Rattle.evaluation.specs.Judging.{lassoOf, rowOf, rowNumber, holdsIn, rowsThen, rowOutcome, judgeOutcome, replyBy, reply, scratchAfter, lastRow}
+use Rattle.evaluation.specs.Answers.{said, Count, none, one-more, no-more, FirstFailing, Judges}
 use Rattle.evaluation.proofs.Scratch.{width, row-part}
 use Rattle.evaluation.proofs.WordRow.{Inside, lasso-inside, accepted-facts}
 use Rattle.evaluation.proofs.LastRow.{judge-rows, accepted-scratch}
@@ -32,12 +36,16 @@ use Rattle.evaluation.proofs.LastRow.{judge-rows, accepted-scratch}
 row-bit : (L : ℕ) (f : Sequence) (i : ℕ) → i < L → holdsIn (row L f) i ≡ f i
 row-bit L f i h = ap (λ (x : ℕ). bit x (i % 64)) (row-word L f (i / 64) (omega arith)) ∙ word-bit L f i h
 
+-- a Bool that is another, which says that something holds
+says : {A : Type 0} {b c : Bool} → b ≡ c → T c ↔ A → T b ↔ A
+says e h = (λ x. h .0 (subst T e x), λ x. subst T (sym e) (h .1 x))
+
 -- the bits that no position has are 0
 pub high-bits : (L : ℕ) (f : Sequence) (i : ℕ) → L ≤ i → holdsIn (row L f) i ≡ false
 unfolding wordOf
-high-bits L f i h = by (decLt (i / 64) (words L))
+high-bits L f i h = by (decLt (i / 64) (rowWords L))
   where
-    by : Dec (i / 64 < words L) → holdsIn (row L f) i ≡ false
+    by : Dec (i / 64 < rowWords L) → holdsIn (row L f) i ≡ false
     by (yes k) =
         ap (λ (x : ℕ). bit x (i % 64)) (row-word L f (i / 64) k)
         ∙ bit-above _ _ (i % 64) (pack-lt f (i / 64 * 64) _) (omega arith)
@@ -89,11 +97,10 @@ module _ (t samples : List ℕ) (start : ℕ) (scratch : List ℕ) (accepted : r
   unfolding Promise
   promised after e j h i =
       let φ : Formula = getD (formulas t) j (const false) in
-      let said : holdsIn (rowNumber (rowWords (length samples)) j after) (place (length samples) start i) ≡ truth (lassoOf samples start) φ i =
+      let same : holdsIn (rowNumber (rowWords (length samples)) j after) (place (length samples) start i) ≡ truth (lassoOf samples start) φ i =
       ap (λ (x : List ℕ). holdsIn (rowNumber (rowWords (length samples)) j x) (place (length samples) start i)) (sym e) ∙ bit-of-word j h i
       in
-      let holds = truth-holds (lassoOf samples start) φ i in
-      (λ x. holds .0 (subst T said x), λ x. subst T (sym said) (holds .1 x))
+      says same (truth-holds (lassoOf samples start) φ i)
 
 -- the row call
 pub row-promise : (t samples : List ℕ) (start : ℕ) (scratch : List ℕ) → rowOutcome t samples start scratch ≡ Accepted
@@ -111,3 +118,70 @@ pub judge-promise : (t samples : List ℕ) (start : ℕ) (scratch : List ℕ) (t
 unfolding Promise
 judge-promise t samples start scratch tally e =
     promised t samples start scratch (judge-rows t samples start scratch tally e) _ (accepted-scratch t samples start scratch e)
+
+-- ---- the answers
+
+-- what is counted and found off a sequence, by a predicate that it decides
+module _ (f : Sequence) (P : Predicate) (h : (i : ℕ) → T (f i) ↔ P i) where
+  true-holds : (i : ℕ) → f i ≡ true → P i
+  true-holds i e = h i .0 (subst T (sym e) tt)
+
+  false-fails : (i : ℕ) → f i ≡ false → P i → ⊥
+  false-fails i e p = subst T e (h i .1 p)
+
+  count-holds : (n : ℕ) → Count P n (countTrue f n)
+  unfolding countTrue
+  count-holds zero = none
+  count-holds (suc n) = go (f n) refl (count-holds n)
+    where
+      go : (b : Bool) → f n ≡ b → Count P n (countTrue f n) → Count P (suc n) (countTrue f n + digit b)
+      go true e c = rw add-one (one-more (true-holds n e) c)
+      go false e c = rw add-zero (no-more (false-fails n e) c)
+
+  first-fails : (i n : ℕ) → ((j : ℕ) → i ≤ j → j < firstFalse f i n → P j)
+      × ((firstFalse f i n ≡ i + n) ⊎ ((firstFalse f i n < i + n) × (P (firstFalse f i n) → ⊥)))
+  unfolding firstFalse
+  first-fails i zero = (λ j a b. absurd (omega arith), inl (sym (add-zero i)))
+  first-fails i (suc n) = go (f i) refl (first-fails (suc i) n)
+    where
+      k : ℕ
+      k = firstFalse f (suc i) n
+
+      go : (b : Bool) → f i ≡ b
+          → ((j : ℕ) → suc i ≤ j → j < k → P j) × ((k ≡ suc i + n) ⊎ ((k < suc i + n) × (P k → ⊥)))
+          → ((j : ℕ) → i ≤ j → j < cond b k i → P j) × ((cond b k i ≡ i + suc n) ⊎ ((cond b k i < i + suc n) × (P (cond b k i) → ⊥)))
+      go true e r = (
+        λ j a b. elim (eq-or-lt-of-le a) [ inl q ↦ subst P q (true-holds i e) | inr l ↦ r .0 j l b ],
+        elim (r .1) [ inl q ↦ inl (omega arith) | inr q ↦ inr (omega (arith, q .0), q .1) ],
+      )
+      go false e r = (λ j a b. absurd (omega arith), inr (omega arith, false-fails i e))
+
+-- the number and place of every judgement are its checks'
+pub said-outcome : (t samples : List ℕ) (start : ℕ) (scratch : List ℕ) (tally : Tally)
+    → (said (reply t samples start scratch tally .answer) .number ≡ outcomeNumber (judgeOutcome t samples start scratch tally))
+    × (said (reply t samples start scratch tally .answer) .place ≡ outcomePlace (judgeOutcome t samples start scratch tally))
+unfolding reply replyBy
+said-outcome t samples start scratch tally = by (judgeOutcome t samples start scratch tally)
+  where
+    by : (o : Outcome) → (said (replyBy o (lassoOf samples start) (rule t) tally .answer) .number ≡ outcomeNumber o)
+        × (said (replyBy o (lassoOf samples start) (rule t) tally .answer) .place ≡ outcomePlace o)
+    by Accepted = (refl, refl)
+    by (Refused why) = (refl, refl)
+
+-- an accepted judgement, by the meaning of the rule
+pub accepted-judgement : (t samples : List ℕ) (start : ℕ) (scratch : List ℕ) (tally : Tally) → judgeOutcome t samples start scratch tally ≡ Accepted
+    → Judges (Holds (word (lassoOf samples start)) (rule t)) (length samples) (said (reply t samples start scratch tally .answer))
+    (lastRow (rowOutcome t samples start scratch) t samples start)
+unfolding reply lastRow replyBy rowOf
+accepted-judgement t samples start scratch tally e =
+    let r : Lasso = lassoOf samples start in
+    let rows = judge-rows t samples start scratch tally e in
+    let size : length (r .samples) ≡ length samples = ap (λ (x : Lasso). length (x .samples)) (inside t samples start scratch rows .1) in
+    let first = first-fails (truth r (rule t)) (Holds (word r) (rule t)) (truth-holds r (rule t)) 0 (length (r .samples)) in
+    rw (e, rows, ← size) (record {
+      accepted = (refl, refl);
+      held = truth-holds r (rule t) 0;
+      counted = count-holds (truth r (rule t)) (Holds (word r) (rule t)) (truth-holds r (rule t)) (length (r .samples));
+      first = record { before = λ i l. first .0 i (omega arith) l; there = rw zero-add at (first .1) };
+      bits = λ i l. says (row-bit (length (r .samples)) (truth r (rule t)) i l) (truth-holds r (rule t) i);
+    })

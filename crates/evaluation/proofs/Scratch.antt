@@ -5,20 +5,20 @@ use mathlib.Core.Bool.{false}
 use mathlib.Core.List.{List, [], _∷_, _++_, append-assoc, append-nil}
 use native.Mathlib.Nat.{zero-mul, suc-mul, mul-le-mul-right}
 use native.Mathlib.Omega.{arith}
-use lib.ListN.{length, getD, take, drop, length-append, length-drop}
-use lib.Seq.{take-at, drop-at, drop-drop, take-append-le, drop-append-le, drop-append-add}
+use lib.ListN.{length, getD, take, drop, length-append}
+use lib.Seq.{take-at, drop-at, drop-drop, drop-append-add}
 use Rattle.logic.specs.Formula.{Formula, const}
 use Rattle.logic.specs.Lasso.{Lasso}
 use Rattle.rows.proofs.Rows.{row-length}
-use Rattle.table.specs.StepChecks.{rowWords}
-use Rattle.evaluation.specs.Judging.{rowOf, rowsOf, rowsThen}
+use Rattle.rows.specs.Row.{rowWords}
+use Rattle.evaluation.specs.Judging.{rowOf, rowsOf, rowNumber, rowsThen, Standing}
 
 -- the words of one row over a lasso
 abbrev pub width : Lasso → ℕ
 width r = rowWords (length (r .samples))
 
 pub length-rowOf : (r : Lasso) (φ : Formula) → length (rowOf r φ) ≡ width r
-unfolding rowOf rowWords
+unfolding rowOf
 length-rowOf r φ = row-length (length (r .samples)) _
 
 pub length-rowsOf : (r : Lasso) (φs : List Formula) → length (rowsOf r φs) ≡ length φs * width r
@@ -45,16 +45,6 @@ row-part r (φ ∷ φs) (suc n) rest h =
     let e : suc n * width r ≡ length (rowOf r φ) + n * width r = omega (arith, suc-mul n (width r), length-rowOf r φ) in
     rw (e, append-assoc (rowOf r φ) (rowsOf r φs) rest, drop-append-add (rowOf r φ) (rowsOf r φs ++ rest) (n * width r))
     (row-part r φs n rest (omega arith))
-
--- what lies past the rows
-pub past-rows : (r : Lasso) (φs : List Formula) (rest : List ℕ) → drop (length φs * width r) (rowsOf r φs ++ rest) ≡ rest
-past-rows r φs rest = drop-at (rowsOf r φs) rest (length φs * width r) (length-rowsOf r φs)
-
-pub length-rowsThen : (r : Lasso) (φs : List Formula) (s : List ℕ) → length φs * width r ≤ length s → length (rowsThen r φs s) ≡ length s
-unfolding rowsThen
-length-rowsThen r φs s h =
-    length-append (rowsOf r φs) (drop (length φs * width r) s)
-    ∙ omega (arith, length-rowsOf r φs, length-drop (length φs * width r) s)
 
 -- more rows, over the first of them
 pub rowsThen-over : (r : Lasso) (φs ψs : List Formula) (s : List ℕ) → length φs ≤ length ψs
@@ -93,3 +83,14 @@ rowsThen-more r φs φ s =
 -- the part of one row among so many
 pub row-end : (m k words n : ℕ) → m < k → k * words ≤ n → m * words + words ≤ n
 row-end m k words n h l = omega (arith, suc-mul m words, mul-le-mul-right words h)
+
+-- the part of a word's row that stands
+pub standing-end : {n words w : ℕ} {s : List ℕ} → words ≡ w → Standing n w s → (n - 1) * words + words ≤ length s
+standing-end {n} {words} {w} {s} e h =
+    let last : n - 1 < n = omega (arith, h .some) in
+    rw e (row-end (n - 1) n w (length s) last (h .room))
+
+pub part-row : {words w : ℕ} (k : ℕ) (s : List ℕ) → words ≡ w → take (k * words + words - k * words) (drop (k * words) s) ≡ rowNumber w k s
+part-row {words} {w} k s e =
+    let d : k * words + words - k * words ≡ words = omega arith in
+    ap (λ (x : ℕ). take x (drop (k * words) s)) d ∙ ap (λ (x : ℕ). rowNumber x k s) e

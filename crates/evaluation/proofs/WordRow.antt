@@ -1,31 +1,29 @@
 -- One word's turn: its operands' rows stand in the scratch, and its own row is put into its part.
 use Prim.Native.Nat.{ℕ, zero, suc, _+_, _-_, _*_, _/_, _≤_, _<_}
 use mathlib.Core.Path.{_≡_, refl, sym, ap, ap₂, subst, _∙_}
-use mathlib.Core.Bool.{true, false}
+use mathlib.Core.Bool.{Bool, false}
 use mathlib.Core.List.{List, [], _∷_, _++_}
 use native.Mathlib.Decide.{decLt}
 use native.Mathlib.Numerals.{add-one}
-use native.Mathlib.Nat.{mul-le-mul}
+use native.Mathlib.Nat.{mul-le-mul, mul-le-mul-right, le-trans}
 use native.Mathlib.Omega.{arith}
 use lib.ListN.{length, getD, take, drop, length-drop}
 use lib.Seq.{take-all, take-suc, length-take-le}
 use Rattle.logic.specs.Formula.{Formula, const}
 use Rattle.logic.specs.Lasso.{Lasso}
-use Rattle.logic.specs.Truth.{Sequence, truth}
-use Rattle.rows.specs.Row.{row}
-use Rattle.rows.specs.Row as rows
+use Rattle.logic.specs.Truth.{Sequence, Operation, truth}
+use Rattle.rows.specs.Row.{row, rowWords}
 use Rattle.rows.specs.Writing.{RowFor}
 use Rattle.table.specs.declared.refusal.Outcome.the-variants.{Accepted}
-use Rattle.table.specs.Node.{kind, left, right, shape}
+use Rattle.table.specs.Node.{kind, right, shape}
 use Rattle.table.specs.Table.{formulaOf, wordFormula, formulas}
-use Rattle.table.specs.Checks.{isOperand, isProposition, holdsLeft, holdsRight}
-use Rattle.table.specs.StepChecks.{rowWords}
 use Rattle.table.proofs.Formulas.{length-formulas, formula-at}
 use Rattle.table.proofs.Accepted.{WellFormedWord}
-use Rattle.evaluation.specs.Judging.{lassoBy, lassoOf, rowOf, rowOutcome, rowsThen}
-use Rattle.evaluation.specs.Looped.{looped}
+use Rattle.evaluation.specs.declared.operators.Operator.{Operator}
+use Rattle.evaluation.specs.Judging.{lassoBy, lassoOf, rowOf, rowNumber, rowOutcome, rowsThen, Standing}
+use Rattle.evaluation.specs.Looped.{Meaning, literally, operation, meaning, does, rowBy, Prepared, firstOperand}
 use Rattle.evaluation.proofs.Outcomes.{Judgeable, judgeable}
-use Rattle.evaluation.proofs.Looped.{looped-row}
+use Rattle.evaluation.proofs.Looped.{Earlier, operands-earlier, letter-known, word-row}
 use Rattle.evaluation.proofs.Scratch.{width, row-end, row-part, rowsThen-over, rowsThen-more}
 
 -- samples and a loop start that is inside are a lasso
@@ -41,26 +39,14 @@ lasso-inside samples start h = by (decLt start (length samples))
     by (yes k) = (k, refl)
     by (no k) = absurd (k h)
 
--- the row of an operand, which is an earlier word
-pub operand-row : (r : Lasso) (φs : List Formula) (s : List ℕ) (n : ℕ) → s ≡ rowsThen r φs s → 1 ≤ n → n ≤ length φs
-    → take (width r) (drop ((n - 1) * width r) s) ≡ rowOf r (formulaOf φs n)
+-- the row of an earlier word
+operand-row : (r : Lasso) (φs : List Formula) (s : List ℕ) (n : ℕ) → s ≡ rowsThen r φs s → 1 ≤ n → n ≤ length φs
+    → rowNumber (width r) (n - 1) s ≡ rowOf r (formulaOf φs n)
 unfolding rowsThen formulaOf
 operand-row r φs s zero e h l = absurd (omega arith)
 operand-row r φs s (suc n) e h l =
     let d : suc n - 1 ≡ n = omega arith in
-    rw d
-    (ap (λ (x : List ℕ). take (width r) (drop (n * width r) x)) e
-    ∙ row-part r φs n (drop (length φs * width r) s) (omega arith))
-
--- the same, read off a copy
-loaded-row : (r : Lasso) (φs : List Formula) (s a : List ℕ) (words l n : ℕ) → s ≡ rowsThen r φs s → words ≡ width r → l ≡ n
-    → 1 ≤ n → n ≤ length φs → (1 ≤ l → l ≤ length φs → take words a ≡ take words (drop ((l - 1) * words) s))
-    → take (width r) a ≡ rowOf r (formulaOf φs n)
-loaded-row r φs s a words l n stands wide same h k load =
-    ap (λ (x : ℕ). take x a) (sym wide)
-    ∙ load (omega arith) (omega arith)
-    ∙ ap₂ (λ (x y : ℕ). take x (drop ((y - 1) * x) s)) wide same
-    ∙ operand-row r φs s n stands h k
+    rw d (ap (rowNumber (width r) n) e ∙ row-part r φs n (drop (length φs * width r) s) (omega arith))
 
 -- the list with a row of so many words put into part n
 abbrev withRow : ℕ → ℕ → List ℕ → List ℕ → List ℕ
@@ -79,21 +65,18 @@ module _ (t samples : List ℕ) (start j : ℕ) (s : List ℕ) (words : ℕ) (h 
   facts : Judgeable t (length samples) start (length s)
   facts = accepted-facts t samples start s accepted
 
-  pub few-words : words ≤ 64
-  unfolding rowWords
+  few-words : words ≤ 64
   few-words = rw wide (omega (arith, facts .few))
 
   pub part-end : j * words + words ≤ length s
   part-end = row-end j (length t) words (length s) h (subst (λ (w : ℕ). length t * w ≤ length s) (sym wide) (facts .room))
 
-  pub operands-fit : (j ≤ 16383) × (words ≤ 64) × (j * words ≤ length s)
-  operands-fit = (omega (arith, facts .table .few), few-words, omega (arith, part-end))
-
   pub part-small : j * words + words ≤ 1048576
-  part-small = omega (arith, mul-le-mul (operands-fit .0) few-words, few-words)
+  part-small =
+      let few : j ≤ 16383 = omega (arith, facts .table .few) in
+      omega (arith, mul-le-mul few few-words, few-words)
 
   pub part-for : RowFor (length samples) (take (j * words + words - j * words) (drop (j * words) s))
-  unfolding rowWords
   part-for = record {
     some = facts .some;
     few = facts .few;
@@ -102,55 +85,70 @@ module _ (t samples : List ℕ) (start j : ℕ) (s : List ℕ) (words : ℕ) (h 
         ∙ omega (arith, wide);
   }
 
-  word-formed : WellFormedWord false (take j t) (suc j) (getD t j 0)
-  word-formed = facts .table .word j h
-
-  pub letter-known : isProposition (holdsRight (getD t j 0)) ≡ true → (1 ≤ right (getD t j 0)) × (right (getD t j 0) ≤ 32)
-  letter-known = word-formed .letter
+  formed : WellFormedWord false (take j t) (suc j) (getD t j 0)
+  formed = facts .table .word j h
 
   pub start-inside : start < length samples
   start-inside = facts .inside
 
-  -- the word's row in its part, from the copies of its operands' rows and what the writer promises
-  pub row-filled : s ≡ rowsThen (lassoOf samples start) (take j (formulas t)) s → (a b e : List ℕ) (l n : ℕ)
-      → l ≡ left (getD t j 0) → n ≡ right (getD t j 0)
-      → (1 ≤ l → l ≤ j → take words a ≡ take words (drop ((l - 1) * words) s))
-      → (1 ≤ n → n ≤ j → take words b ≡ take words (drop ((n - 1) * words) s))
-      → ((f g : Sequence)
-      → (isOperand (holdsLeft (getD t j 0)) ≡ true → take (rows.words (length samples)) a ≡ row (length samples) f)
-      → (isOperand (holdsRight (getD t j 0)) ≡ true → take (rows.words (length samples)) b ≡ row (length samples) g)
-      → e ≡ row (length samples) (looped (length samples) start samples (shape (kind (getD t j 0))) (right (getD t j 0)) f g))
-      → take (j * words) s ++ (e ++ drop (j * words + words - j * words) (drop (j * words) s))
-      ≡ rowsThen (lassoOf samples start) (take (j + 1) (formulas t)) s
-  unfolding rowOf rowWords wordFormula
-  row-filled so-far a b e l n el er la lb promised =
-      let w : ℕ = getD t j 0 in
-      let φs : List Formula = take j (formulas t) in
-      let m : length φs ≡ j = length-take-le j (formulas t) (omega (arith, length-formulas t)) in
-      let i : Inside samples start = lasso-inside samples start (facts .inside) in
-      let r : Lasso = record { samples = samples; start = start; inside = i .0 } in
-      let stands : s ≡ rowsThen r φs s = subst (λ (x : Lasso). s ≡ rowsThen x φs s) (i .1) so-far in
-      let A : Formula = formulaOf φs (left w) in
-      let B : Formula = formulaOf φs (right w) in
-      let written : e ≡ rowOf r (wordFormula φs w) =
-      promised (truth r A) (truth r B)
-      (λ o. loaded-row r φs s a words l (left w) stands wide el (word-formed .operand-left o .0)
-      (omega (arith, word-formed .operand-left o .1)) (λ x y. la x (omega arith)))
-      (λ o. loaded-row r φs s b words n (right w) stands wide er (word-formed .operand-right o .0)
-      (omega (arith, word-formed .operand-right o .1)) (λ x y. lb x (omega arith)))
-      ∙ sym (looped-row r (shape (kind w)) (right w) A B)
-      in
-      let more : φs ++ (wordFormula φs w ∷ []) ≡ take (j + 1) (formulas t) =
-      ap (λ (φ : Formula). φs ++ (φ ∷ [])) (sym (formula-at t j h))
-      ∙ sym (take-suc (formulas t) j (const false) (omega (arith, length-formulas t)))
-      ∙ ap (λ (x : ℕ). take x (formulas t)) (sym (add-one j))
-      in
-      let rest : j * words + words - j * words ≡ words = omega arith in
-      ap (λ (x : ℕ). take (j * words) s ++ (e ++ drop x (drop (j * words) s))) rest
-      ∙ ap₂ (λ (x : ℕ) (y : List ℕ). withRow x words s y) (sym m) written
-      ∙ ap₂ (λ (x : ℕ) (y : List ℕ). withRow (length φs) x y (rowOf r (wordFormula φs w))) wide stands
-      ∙ rowsThen-more r φs (wordFormula φs w) s
-      ∙ ap₂ (λ (x : Lasso) (y : List Formula). rowsThen x y s) (sym (i .1)) more
+  -- what the word's operator reads, and the word's letter
+  module _ (op : Operator) (means : does op ≡ meaning (shape (kind (getD t j 0)))) (l n : ℕ) (el : l ≡ firstOperand (getD t j 0)) (er : n ≡ right (getD t j 0)) where
+    earlier : (o : Operation) → does op ≡ operation o → Earlier (suc j) l × Earlier (suc j) n
+    earlier o e = rw (el, er) (operands-earlier (take j t) (suc j) (getD t j 0) formed o (sym e ∙ means))
+
+    pub standing : (o : Operation) → does op ≡ operation o → Standing l (rowWords (length samples)) s × Standing n (rowWords (length samples)) s
+    standing o e = (stands l (earlier o e .0), stands n (earlier o e .1))
+      where
+        stands : (m : ℕ) → Earlier (suc j) m → Standing m (rowWords (length samples)) s
+        stands m e =
+            let below : m ≤ j = omega arith in
+            record { some = e .0; room = subst (λ (x : ℕ). m * x ≤ length s) wide (le-trans (mul-le-mul-right words below) (omega (arith, part-end))) }
+
+    pub letter-in : (c : Bool) → does op ≡ literally c → (1 ≤ n) × (n ≤ 32)
+    letter-in c e = rw er (letter-known (take j t) (suc j) (getD t j 0) formed c (sym e ∙ means))
+
+    -- the word's row in its part, from what is read and what the writer promises
+    pub row-filled : s ≡ rowsThen (lassoOf samples start) (take j (formulas t)) s → (a b e : List ℕ)
+        → ((f g : Sequence)
+        → ((o : Operation) → does op ≡ operation o
+        → (rowNumber (rowWords (length samples)) (l - 1) s ≡ row (length samples) f) × (rowNumber (rowWords (length samples)) (n - 1) s ≡ row (length samples) g))
+        → Prepared op (length samples) f g a b)
+        → ((f g : Sequence) → Prepared op (length samples) f g a b
+        → e ≡ row (length samples) (rowBy (length samples) start samples (does op) n f g))
+        → take (j * words) s ++ (e ++ drop (j * words + words - j * words) (drop (j * words) s))
+        ≡ rowsThen (lassoOf samples start) (take (j + 1) (formulas t)) s
+    unfolding rowOf
+    row-filled so-far a b e prepared promised =
+        let w : ℕ = getD t j 0 in
+        let φs : List Formula = take j (formulas t) in
+        let m : length φs ≡ j = length-take-le j (formulas t) (omega (arith, length-formulas t)) in
+        let i : Inside samples start = lasso-inside samples start (facts .inside) in
+        let r : Lasso = record { samples = samples; start = start; inside = i .0 } in
+        let stands : s ≡ rowsThen r φs s = subst (λ (x : Lasso). s ≡ rowsThen x φs s) (i .1) so-far in
+        let f : Sequence = truth r (formulaOf φs (firstOperand w)) in
+        let g : Sequence = truth r (formulaOf φs (right w)) in
+        let read : (k : ℕ) → Earlier (suc j) k → rowNumber (rowWords (length samples)) (k - 1) s ≡ rowOf r (formulaOf φs k)
+        = λ k d. operand-row r φs s k stands (d .0) (omega (arith, d .1)) in
+        let rows = prepared f g (λ o d. (
+          read l (earlier o d .0) ∙ ap (λ (x : ℕ). rowOf r (formulaOf φs x)) el,
+          read n (earlier o d .1) ∙ ap (λ (x : ℕ). rowOf r (formulaOf φs x)) er,
+        )) in
+        let written : e ≡ rowOf r (wordFormula φs w) =
+        promised f g rows
+        ∙ ap₂ (λ (x : Meaning) (y : ℕ). row (length samples) (rowBy (length samples) start samples x y f g)) means er
+        ∙ word-row (take j t) (suc j) w formed r φs
+        in
+        let more : φs ++ (wordFormula φs w ∷ []) ≡ take (j + 1) (formulas t) =
+        ap (λ (φ : Formula). φs ++ (φ ∷ [])) (sym (formula-at t j h))
+        ∙ sym (take-suc (formulas t) j (const false) (omega (arith, length-formulas t)))
+        ∙ ap (λ (x : ℕ). take x (formulas t)) (sym (add-one j))
+        in
+        let rest : j * words + words - j * words ≡ words = omega arith in
+        ap (λ (x : ℕ). take (j * words) s ++ (e ++ drop x (drop (j * words) s))) rest
+        ∙ ap₂ (λ (x : ℕ) (y : List ℕ). withRow x words s y) (sym m) written
+        ∙ ap₂ (λ (x : ℕ) (y : List ℕ). withRow (length φs) x y (rowOf r (wordFormula φs w))) wide stands
+        ∙ rowsThen-more r φs (wordFormula φs w) s
+        ∙ ap₂ (λ (x : Lasso) (y : List Formula). rowsThen x y s) (sym (i .1)) more
 
 -- ---- the turns one after another
 

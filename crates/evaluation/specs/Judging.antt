@@ -1,5 +1,5 @@
 -- What a judgement answers, and what it leaves in the scratch: accepted or refused, the whole of both.
-use Prim.Native.Nat.{ℕ, _*_, _/_, _%_, _<_}
+use Prim.Native.Nat.{ℕ, _+_, _-_, _*_, _/_, _%_, _≤_, _<_}
 use mathlib.Core.Bool.{Bool}
 use mathlib.Core.List.{List, [], _∷_, _++_}
 use native.Mathlib.Decide.{decLt}
@@ -8,17 +8,17 @@ use lib.Dec.{lit<}
 use Rattle.logic.specs.Formula.{Formula}
 use Rattle.logic.specs.Lasso.{Lasso}
 use Rattle.logic.specs.Truth.{Sequence, truth}
-use Rattle.rows.specs.Row.{bit, row, countTrue, firstFalse}
+use Rattle.rows.specs.Row.{bit, row, rowWords, countTrue, firstFalse}
 use Rattle.table.specs.declared.refusal.Outcome.{Outcome}
 use Rattle.table.specs.declared.refusal.Outcome.the-variants.{Accepted, Refused}
 use Rattle.table.specs.Refusals.{first}
 use Rattle.table.specs.Table.{formulas, rule}
-use Rattle.table.specs.StepChecks.{rowWords, rowChecks, judgeChecks}
 use Rattle.evaluation.specs.declared.tally.Tally.{Tally}
 use Rattle.evaluation.specs.declared.answer.Judgement.{Judgement}
 use Rattle.evaluation.specs.declared.answer.Judgement.the-variants.{Judged as JudgedAs, Refused as NotJudged}
 use Rattle.evaluation.specs.declared.answer.Judged.{Judged}
 use Rattle.evaluation.specs.Tallies.{counted}
+use Rattle.evaluation.specs.Checks.{rowChecks, judgeChecks}
 
 -- samples and a loop start as a lasso; where the loop start is not below their number, which is refused, a single sample 0
 abbrev pub lassoBy : (samples : List ℕ) (start : ℕ) → Dec (start < length samples) → Lasso
@@ -44,6 +44,11 @@ rowNumber words j scratch = take words (drop (j * words) scratch)
 abbrev pub holdsIn : List ℕ → ℕ → Bool
 holdsIn r i = bit (getD r (i / 64) 0) (i % 64)
 
+-- word number n has a row among them
+pub record Standing (n words : ℕ) (scratch : List ℕ) : Type 0 where
+  pub some : 1 ≤ n
+  pub room : n * words ≤ length scratch
+
 -- rows at the start of the scratch, and past them its own words
 unfoldable pub rowsThen : Lasso → List Formula → List ℕ → List ℕ
 rowsThen r φs scratch = rowsOf r φs ++ drop (length φs * rowWords (length (r .samples))) scratch
@@ -67,12 +72,17 @@ unfoldable pub lastRow : Outcome → List ℕ → List ℕ → ℕ → List ℕ
 lastRow Accepted t samples start = rowOf (lassoOf samples start) (rule t)
 lastRow (Refused why) t samples start = []
 
+-- where that part lies, by the block and offset of the scratch: past the rows of the words before the last one, 8 bytes a word
+unfoldable pub partAt : Outcome → List ℕ → List ℕ → ℕ × ℕ → ℕ × ℕ
+partAt Accepted t samples scratch = (scratch .0, (length t - 1) * rowWords (length samples) * 8 + scratch .1)
+partAt (Refused why) t samples scratch = scratch
+
 -- what the checks of the two calls say
 unfoldable pub rowOutcome : List ℕ → List ℕ → ℕ → List ℕ → Outcome
 rowOutcome t samples start scratch = first (rowChecks t (length samples) start (length scratch))
 
 unfoldable pub judgeOutcome : List ℕ → List ℕ → ℕ → List ℕ → Tally → Outcome
-judgeOutcome t samples start scratch tally = first (judgeChecks t (length samples) start (length scratch) (tally .judged) (tally .held))
+judgeOutcome t samples start scratch tally = first (judgeChecks t (length samples) start (length scratch) tally)
 
 -- the judge's whole reply
 unfoldable pub reply : List ℕ → List ℕ → ℕ → List ℕ → Tally → Judged

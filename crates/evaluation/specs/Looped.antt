@@ -1,43 +1,53 @@
--- The operators over the L positions of a lasso with loop start s: what the row of a word holds, from the rows of its operands.
--- proofs/Looped.antt says that below L these are the truth of the word's formula.
-use Prim.Native.Nat.{ℕ, _≤_}
+-- What the row of a word holds, from the rows of its operands: by what the word's kind stands for, and by the operator that the code has for it.
+-- proofs/Looped.antt says that below the number of samples it is the truth of the word's formula.
+use Prim.Native.Nat.{ℕ}
 use mathlib.Core.Path.{_≡_}
-use mathlib.Core.Logic.{_⊎_}
-use mathlib.Core.Bool.{Bool, true, false, not, _&&_, _||_}
+use mathlib.Core.Bool.{Bool, false, cond}
 use mathlib.Core.List.{List}
 use lib.ListN.{getD}
-use Rattle.logic.specs.Formula.{Unary, Binary, next, neg, finally, globally, conj, disj, until, weak, release, strong, implies}
-use Rattle.logic.specs.Truth.{Sequence, both}
-use Rattle.rows.specs.Row.{following, fixpoint}
-use Rattle.rows.specs.Writing.{literal}
-use Rattle.table.specs.Node.{Shape, none, constant, letter, unary, binary}
+use lib.Dec.{eqb}
+use Rattle.logic.specs.Truth.{Sequence, Operation, each, shifted, fixpoint, unaryOperation, binaryOperation, across, looped}
+use Rattle.rows.specs.Row.{row}
+use Rattle.rows.specs.Writing.{joins, literal}
+use Rattle.table.specs.Node.{Shape, none, constant, letter, unary, binary, left, right}
+use Rattle.evaluation.specs.declared.operators.Operator.{Operator}
+use Rattle.evaluation.specs.declared.operators.Operator.the-variants.{Constant, Letter, Each, Next, Fixpoint}
 
-abbrev pub loopedUnary : ℕ → ℕ → Unary → Sequence → Sequence
-loopedUnary L s next f i = following f L s i
-loopedUnary L s neg f i = not (f i)
-loopedUnary L s finally f i = fixpoint f (λ k. true) false L s i
-loopedUnary L s globally f i = fixpoint (λ k. false) f true L s i
+-- a constant, a letter or its denial, or an operation on the operands
+pub data Meaning : Type 0 where
+  constantly literally : Bool → Meaning
+  operation : Operation → Meaning
 
-abbrev pub loopedBinary : ℕ → ℕ → Binary → Sequence → Sequence → Sequence
-loopedBinary L s conj f g i = f i && g i
-loopedBinary L s disj f g i = f i || g i
-loopedBinary L s until f g i = fixpoint g f false L s i
-loopedBinary L s weak f g i = fixpoint g f true L s i
-loopedBinary L s release f g i = fixpoint (both f g) g true L s i
-loopedBinary L s strong f g i = fixpoint (both f g) g false L s i
-loopedBinary L s implies f g i = not (f i) || g i
+-- of a kind, by the table of operations
+abbrev pub meaning : Shape → Meaning
+meaning none = constantly false
+meaning (constant c) = constantly c
+meaning (letter c) = literally c
+meaning (unary o) = operation (unaryOperation o)
+meaning (binary o) = operation (binaryOperation o)
 
--- by what the word's kind stands for: n is its right field, f and g are its operands'
-abbrev pub looped : ℕ → ℕ → List ℕ → Shape → ℕ → Sequence → Sequence → Sequence
-looped L s samples none n f g i = false
-looped L s samples (constant c) n f g i = c
-looped L s samples (letter c) n f g i = literal n c (getD samples i 0)
-looped L s samples (unary o) n f g i = loopedUnary L s o g i
-looped L s samples (binary o) n f g i = loopedBinary L s o f g i
+-- of the code's operator
+abbrev pub does : Operator → Meaning
+does (Constant c) = constantly c
+does (Letter c) = literally c
+does (Each op) = operation (each (joins op))
+does Next = operation shifted
+does (Fixpoint goal keep greatest) = operation (fixpoint (joins goal) (joins keep) greatest)
 
--- the kinds with one operand, and those with two
-abbrev pub UnaryKind : ℕ → Type 0
-UnaryKind k = (k ≡ 7) ⊎ ((12 ≤ k) × (k ≤ 14))
+-- the row's sequence over L positions with loop start s: n is the word's letter, f and g are its operands' sequences
+abbrev pub rowBy : ℕ → ℕ → List ℕ → Meaning → ℕ → Sequence → Sequence → Sequence
+rowBy L s samples (constantly c) n f g i = c
+rowBy L s samples (literally c) n f g i = literal n c (getD samples i 0)
+rowBy L s samples (operation o) n f g i = looped L s o f g i
 
-abbrev pub BinaryKind : ℕ → Type 0
-BinaryKind k = ((5 ≤ k) × (k ≤ 6)) ⊎ (((8 ≤ k) × (k ≤ 11)) ⊎ (k ≡ 15))
+-- what a writer is lent beside the row: the rows that its operator reads, which are a fixpoint's goal and keep, or the operands'
+abbrev pub Prepared : Operator → ℕ → Sequence → Sequence → List ℕ → List ℕ → Type 0
+Prepared (Constant c) L f g a b = Unit
+Prepared (Letter c) L f g a b = Unit
+Prepared (Each op) L f g a b = (a ≡ row L f) × (b ≡ row L g)
+Prepared Next L f g a b = (a ≡ row L f) × (b ≡ row L g)
+Prepared (Fixpoint goal keep greatest) L f g a b = (a ≡ row L (across (joins goal) f g)) × (b ≡ row L (across (joins keep) f g))
+
+-- the word whose row is read on the left: a word with one operand has it on both sides
+unfoldable pub firstOperand : ℕ → ℕ
+firstOperand w = cond (eqb (left w) 0) (right w) (left w)

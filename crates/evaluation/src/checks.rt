@@ -3,7 +3,8 @@ ghost use mathlib.Core.Path.{_≡_};
 ghost use Prim.Native.Nat.{_≤_};
 ghost use mathlib.Core.List.{_++_};
 ghost use Rattle.table.specs.Refusals.{first};
-ghost use Rattle.table.specs.StepChecks.{recordingChecks, scratchChecks, tallyChecks, rowChecks, judgeChecks, rowWords};
+ghost use Rattle.rows.specs.Row.{rowWords};
+ghost use Rattle.evaluation.specs.Checks.{recordingChecks, scratchChecks, tallyChecks, rowChecks, judgeChecks};
 use crate::tally::Tally;
 use table::refusal::Outcome;
 use table::refusal::Refusal;
@@ -56,7 +57,7 @@ pub fn check_memory(words: usize, samples: usize, start: usize, scratch: usize) 
 
 // 17.
 pub fn check_tally(tally: Tally) -> Outcome
-    ensures { λ r. ⌜ r ≡ first (tallyChecks (tally .judged) (tally .held)) ⌝ }
+    ensures { λ r. ⌜ r ≡ first (tallyChecks tally) ⌝ }
 {
     if tally.full() {
         return Outcome::Refused(Refusal::TallyFull);
@@ -82,7 +83,7 @@ pub fn check_judge(
     scratch: usize,
     tally: Tally,
 ) -> Outcome
-    ensures { λ r. ⌜ r ≡ first (judgeChecks (now (table .entry)) samples start scratch (tally .judged) (tally .held)) ⌝ }
+    ensures { λ r. ⌜ r ≡ first (judgeChecks (now (table .entry)) samples start scratch tally) ⌝ }
 {
     match check_row(table, samples, start, scratch) {
         Outcome::Refused(why) => Outcome::Refused(why),

@@ -11,7 +11,7 @@ ghost use Rattle.rows.specs.Row as rows;
 ghost use Rattle.logic.specs.Truth.{Sequence};
 ghost use Rattle.table.specs.declared.refusal.Outcome.the-variants.{Accepted};
 ghost use Rattle.table.specs.Table.{formulas};
-ghost use Rattle.evaluation.specs.Judging.{lassoOf, rowsThen, rowOutcome, judgeOutcome, judgement, reply, scratchAfter, lastRow};
+ghost use Rattle.evaluation.specs.Judging.{lassoOf, rowsThen, rowOutcome, judgeOutcome, judgement, reply, scratchAfter, lastRow, partAt};
 ghost use Rattle.table.specs.Refusals.{outcomeNumber, outcomePlace};
 ghost use Rattle.evaluation.specs.Tallies.{tallyAfter};
 use crate::answer::Judged;
@@ -99,7 +99,7 @@ pub fn fill(table: &[u32], samples: &[u32], start: usize, scratch: &mut [u64]) -
     }
 }
 
-// The row call: the rule's row, a part of the scratch, or an empty part with the refusal's number and place.
+// The row call: the rule's row, where it lies in the scratch, or an empty part with the refusal's number and place.
 // Of a slice that goes to the caller in part a contract says nothing at exit: what becomes of the whole scratch is said by `fill`.
 pub fn row<'a>(
     table: &[u32],
@@ -110,13 +110,15 @@ pub fn row<'a>(
     place: &mut usize,
 ) -> &'a mut [u64]
     ensures { λ r. ⌜ now r ≡ lastRow (rowOutcome (now (table .entry)) (now (samples .entry)) start (now (scratch .entry))) (now (table .entry)) (now (samples .entry)) start ⌝ }
+    ensures { λ r. ⌜ r .ptr ≡ partAt (rowOutcome (now (table .entry)) (now (samples .entry)) start (now (scratch .entry))) (now (table .entry)) (now (samples .entry)) (scratch .entry .ptr) ⌝ }
     ensures { λ _. ⌜ now (number .exit) ≡ outcomeNumber (rowOutcome (now (table .entry)) (now (samples .entry)) start (now (scratch .entry))) ⌝ }
     ensures { λ _. ⌜ now (place .exit) ≡ outcomePlace (rowOutcome (now (table .entry)) (now (samples .entry)) start (now (scratch .entry))) ⌝ }
 {
     match fill(table, samples, start, scratch) {
         Outcome::Refused(why) => {
-            *number = refusal::number(why);
-            *place = refusal::place(why);
+            let report = refusal::report_of(why);
+            *number = report.0;
+            *place = report.1;
             &mut scratch[0..0]
         }
         Outcome::Accepted => {

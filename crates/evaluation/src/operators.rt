@@ -1,73 +1,52 @@
-// The row of a word, by its kind, from the rows of its operands: an operand is a copy of its row in the first words of an array.
+// What is written to the row of a word, by its kind.
 ghost use mathlib.Core.Path.{_≡_};
-ghost use mathlib.Core.List.{List};
-ghost use Prim.Native.Nat.{ℕ, _≤_, _<_};
-ghost use lib.ListN.{length, take};
 ghost use Rattle.table.specs.Node.{shape};
-ghost use Rattle.logic.specs.Truth.{Sequence};
-ghost use Rattle.rows.specs.Row as rows;
-ghost use Rattle.rows.specs.Writing.{RowFor};
-ghost use Rattle.evaluation.specs.Looped.{UnaryKind, BinaryKind, looped};
-use rows::write::write_and;
-use rows::write::write_constant;
-use rows::write::write_finally;
-use rows::write::write_globally;
-use rows::write::write_implies;
-use rows::write::write_letter;
-use rows::write::write_next;
-use rows::write::write_not;
-use rows::write::write_or;
-use rows::write::write_release;
-use rows::write::write_strong;
-use rows::write::write_until;
-use rows::write::write_weak;
+ghost use Rattle.evaluation.specs.Looped.{meaning, does};
+use rows::connective::Connective;
 
-// Constants and letters.
-pub fn write_leaf(row: &mut [u64], kind: u32, letter: usize, samples: &[u32])
-    requires { ⌜ RowFor (length (now samples)) (now row) ⌝ }
-    requires { ⌜ (kind ≤ 4) × (3 ≤ kind → (1 ≤ letter) × (letter ≤ 32)) ⌝ }
-    ensures { λ _. ⌜ ((s : ℕ) (f g : Sequence) → now (row .exit) ≡ rows.row (length (now (samples .entry))) (looped (length (now (samples .entry))) s (now (samples .entry)) (shape kind) letter f g)) ⌝ }
+// A constant; a letter or its denial; a connective of the operands; the next position's value; or the least or greatest fixpoint of:
+// the goal now, or the keep now and the same at the next position.
+pub enum Operator {
+    Constant(bool),
+    Letter(bool),
+    Each(Connective),
+    Next,
+    Fixpoint {
+        goal: Connective,
+        keep: Connective,
+        greatest: bool,
+    },
+}
+
+// Each operator by its kind. F a is true U a, and G a is false R a.
+pub fn of_kind(kind: u32) -> Operator
+    ensures { λ r. ⌜ does r ≡ meaning (shape kind) ⌝ }
 {
     match kind {
-        0..=2 => write_constant(row, samples.len(), kind == 2),
-        _ => write_letter(row, samples, letter as u32, kind == 3),
+        2 => Operator::Constant(true),
+        3 => Operator::Letter(true),
+        4 => Operator::Letter(false),
+        5 => Operator::Each(Connective::And),
+        6 => Operator::Each(Connective::Or),
+        7 => Operator::Next,
+        8 => fixpoint(Connective::Right, Connective::Left, false),
+        9 => fixpoint(Connective::Right, Connective::Left, true),
+        10 => fixpoint(Connective::And, Connective::Right, true),
+        11 => fixpoint(Connective::And, Connective::Right, false),
+        12 => Operator::Each(Connective::Not),
+        13 => fixpoint(Connective::Right, Connective::Always, false),
+        14 => fixpoint(Connective::Never, Connective::Right, true),
+        15 => Operator::Each(Connective::Implies),
+        _ => Operator::Constant(false),
     }
 }
 
-// X, not, F and G.
-pub fn write_unary(row: &mut [u64], kind: u32, a: &[u64; 64], positions: usize, start: usize)
-    requires { ⌜ RowFor positions (now row) ⌝ }
-    requires { ⌜ (start < positions) × UnaryKind kind ⌝ }
-    ensures { λ _. ⌜ ((samples : List ℕ) (n : ℕ) (f g : Sequence) → take (rows.words positions) (now (a .entry)) ≡ rows.row positions g → now (row .exit) ≡ rows.row positions (looped positions start samples (shape kind) n f g)) ⌝ }
+fn fixpoint(goal: Connective, keep: Connective, greatest: bool) -> Operator
+    ensures { λ r. ⌜ r ≡ Operator.Fixpoint goal keep greatest ⌝ }
 {
-    match kind {
-        7 => write_next(row, a, positions, start),
-        12 => write_not(row, a, positions),
-        13 => write_finally(row, a, positions, start),
-        _ => write_globally(row, a, positions, start),
-    }
-}
-
-// And, or, U, W, R, M and implies.
-pub fn write_binary(
-    row: &mut [u64],
-    kind: u32,
-    a: &[u64; 64],
-    b: &[u64; 64],
-    positions: usize,
-    start: usize,
-)
-    requires { ⌜ RowFor positions (now row) ⌝ }
-    requires { ⌜ (start < positions) × BinaryKind kind ⌝ }
-    ensures { λ _. ⌜ ((samples : List ℕ) (n : ℕ) (f g : Sequence) → take (rows.words positions) (now (a .entry)) ≡ rows.row positions f → take (rows.words positions) (now (b .entry)) ≡ rows.row positions g → now (row .exit) ≡ rows.row positions (looped positions start samples (shape kind) n f g)) ⌝ }
-{
-    match kind {
-        5 => write_and(row, a, b, positions),
-        6 => write_or(row, a, b, positions),
-        8 => write_until(row, a, b, positions, start),
-        9 => write_weak(row, a, b, positions, start),
-        10 => write_release(row, a, b, positions, start),
-        11 => write_strong(row, a, b, positions, start),
-        _ => write_implies(row, a, b, positions),
+    Operator::Fixpoint {
+        goal,
+        keep,
+        greatest,
     }
 }

@@ -19,6 +19,6 @@ unfoldable pub wordAt : List ℕ → ℕ → ℕ
 wordAt bs i = getD bs (4 * i) 0 + getD bs (4 * i + 1) 0 * 0x100 + getD bs (4 * i + 2) 0 * 0x10000 + getD bs (4 * i + 3) 0 * 0x1000000
 
 -- n words from number i on
-unfoldable pub wordsFrom : List ℕ → ℕ → ℕ → List ℕ
-wordsFrom bs i zero = []
-wordsFrom bs i (suc n) = wordAt bs i ∷ wordsFrom bs (suc i) n
+unfoldable pub decoded : List ℕ → ℕ → ℕ → List ℕ
+decoded bs i zero = []
+decoded bs i (suc n) = wordAt bs i ∷ decoded bs (suc i) n

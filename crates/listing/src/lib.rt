@@ -1,9 +1,23 @@
 // Rules as a program reads and prints them: words from bytes, least byte first, and a word as a line of text.
 ghost use mathlib.Core.Path.{_≡_};
 ghost use mathlib.Core.List.{_++_};
-ghost use Prim.Native.Nat.{_<_, _/_, min};
+ghost use Prim.Native.Nat.{_+_, _<_, _/_, min};
 ghost use lib.ListN.{length, drop};
-ghost use Rattle.listing.specs.Listing.{hexDigit, hexLine, wordAt, wordsFrom};
+ghost use Rattle.table.specs.Refusals as refusals;
+ghost use Rattle.table.specs.StepChecks.{inputChecks};
+ghost use Rattle.listing.specs.Listing.{hexDigit, hexLine, wordAt, decoded};
+use table::refusal::Outcome;
+use table::refusal::Refusal;
+
+// 18: whether the bytes of an input, the first ones and the rest, are whole words.
+pub fn check_input(first: usize, rest: usize) -> Outcome
+    ensures { λ r. ⌜ r ≡ refusals.first (inputChecks (first + rest)) ⌝ }
+{
+    if (first % 4 + rest % 4) % 4 != 0 {
+        return Outcome::Refused(Refusal::NotWords);
+    }
+    Outcome::Accepted
+}
 
 // A digit in hexadecimal, capitals.
 pub fn digit(d: u32) -> u8
@@ -21,13 +35,13 @@ pub fn line(w: u32) -> [u8; 9]
     ensures { λ r. ⌜ r ≡ hexLine w ⌝ }
 {
     [
-        digit(w / 268435456 % 16),
-        digit(w / 16777216 % 16),
-        digit(w / 1048576 % 16),
-        digit(w / 65536 % 16),
-        digit(w / 4096 % 16),
-        digit(w / 256 % 16),
-        digit(w / 16 % 16),
+        digit((w >> 28) % 16),
+        digit((w >> 24) % 16),
+        digit((w >> 20) % 16),
+        digit((w >> 16) % 16),
+        digit((w >> 12) % 16),
+        digit((w >> 8) % 16),
+        digit((w >> 4) % 16),
         digit(w % 16),
         10,
     ]
@@ -49,13 +63,13 @@ fn word(bytes: &[u8], i: usize) -> u32
     let b = wide(bytes[4 * i + 1]);
     let c = wide(bytes[4 * i + 2]);
     let d = wide(bytes[4 * i + 3]);
-    a + b * 256 + c * 65536 + d * 16777216
+    a + b * 0x100 + c * 0x10000 + d * 0x1000000
 }
 
 // The whole words of the bytes, as many as there is room for.
 pub fn decode(bytes: &[u8], out: &mut [u32]) -> usize
     ensures { λ r. ⌜ r ≡ min (length (now (bytes .entry)) / 4) (length (now (out .entry))) ⌝ }
-    ensures { λ r. ⌜ now (out .exit) ≡ wordsFrom (now (bytes .entry)) 0 r ++ drop r (now (out .entry)) ⌝ }
+    ensures { λ r. ⌜ now (out .exit) ≡ decoded (now (bytes .entry)) 0 r ++ drop r (now (out .entry)) ⌝ }
 {
     let mut n = bytes.len() / 4;
     if out.len() < n {

@@ -1,8 +1,9 @@
 -- The class byte of a formula as a function of its operator and its operands' class bytes, by bit operations.
 -- Bits, lowest first: Δ₀, Σ₁, Π₁, Δ₁, Σ₂, Π₂, Δ₂.
 use Prim.Native.Nat.{ℕ, _*_}
+use mathlib.Core.Bool.{cond}
 use lib.Bits.{bitAnd, bitOr}
-use Rattle.logic.specs.Formula.{Unary, Binary, next, neg, finally, globally, conj, disj, until, weak, release, strong, implies}
+use Rattle.logic.specs.Formula.{Unary, Binary, next, neg, finally, globally, isJunction, isLeastOp, isGreatestOp}
 
 -- a formula with no operand is in every class
 abbrev pub atomicByte : ℕ
@@ -32,10 +33,7 @@ unaryByte finally a = 0
 unaryByte globally a = 0
 
 abbrev pub binaryByte : Binary → ℕ → ℕ → ℕ
-binaryByte conj a b = bitAnd a b
-binaryByte disj a b = bitAnd a b
-binaryByte until a b = leastByte a b
-binaryByte weak a b = greatestByte a b
-binaryByte release a b = greatestByte a b
-binaryByte strong a b = leastByte a b
-binaryByte implies a b = 0
+binaryByte o a b =
+    cond (isJunction o) (bitAnd a b)
+    (cond (isLeastOp o) (leastByte a b)
+    (cond (isGreatestOp o) (greatestByte a b) 0))

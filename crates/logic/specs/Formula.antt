@@ -14,6 +14,35 @@ pub data Binary : Type 0 where
   conj disj until weak release strong implies : Binary
   deriving Discrete as Binary-discrete
 
+-- U and M are least fixpoints, W and R greatest ones (document 01: the until-like words)
+abbrev pub isLeastOp : Binary → Bool
+isLeastOp conj = false
+isLeastOp disj = false
+isLeastOp until = true
+isLeastOp weak = false
+isLeastOp release = false
+isLeastOp strong = true
+isLeastOp implies = false
+
+abbrev pub isGreatestOp : Binary → Bool
+isGreatestOp conj = false
+isGreatestOp disj = false
+isGreatestOp until = false
+isGreatestOp weak = true
+isGreatestOp release = true
+isGreatestOp strong = false
+isGreatestOp implies = false
+
+-- and, or
+abbrev pub isJunction : Binary → Bool
+isJunction conj = true
+isJunction disj = true
+isJunction until = false
+isJunction weak = false
+isJunction release = false
+isJunction strong = false
+isJunction implies = false
+
 -- a constant; a letter (true) or its negation (false), by the letter's number; an operator with its operands
 pub data Formula : Type 0 where
   const : Bool → Formula

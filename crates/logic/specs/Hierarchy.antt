@@ -1,32 +1,24 @@
 -- The syntactic-future hierarchy: source 002, Definition 5. Document 01 puts the constants into class zero.
 use Prim.Native.Nat.{ℕ}
-use mathlib.Core.Bool.{Bool, true, false}
+use mathlib.Core.Bool.{Bool, true, false, _||_}
 use mathlib.Core.List.{List, [], _∷_}
 use lib.ListN.{getD}
 use mathlib.Core.Logic.{_⊎_}
 use lib.Dec.{T}
-use Rattle.logic.specs.Formula.{Formula, Unary, Binary, const, lit, un, bin, next, neg, finally, globally, conj, disj, until, weak, release, strong, implies}
+use Rattle.logic.specs.Formula.{Formula, Binary, const, lit, un, bin, next, isLeastOp, isGreatestOp, isJunction}
 
 -- the temporal operators under which a class is closed, X apart: none, U and M, or W and R
 pub data Closing : Type 0 where
   boolean least greatest : Closing
 
+-- none, U and M, or W and R
+abbrev pub closesFixpoint : Closing → Binary → Bool
+closesFixpoint boolean o = false
+closesFixpoint least o = isLeastOp o
+closesFixpoint greatest o = isGreatestOp o
+
 abbrev pub closes : Closing → Binary → Bool
-closes c conj = true
-closes c disj = true
-closes boolean until = false
-closes boolean weak = false
-closes boolean release = false
-closes boolean strong = false
-closes least until = true
-closes least weak = false
-closes least release = false
-closes least strong = true
-closes greatest until = false
-closes greatest weak = true
-closes greatest release = true
-closes greatest strong = false
-closes c implies = false
+closes c o = isJunction o || closesFixpoint c o
 
 abbrev pub closesNext : Closing → Bool
 closesNext boolean = false

@@ -5,33 +5,21 @@ use mathlib.Core.List.{List, [], _∷_, _++_, map, foldl}
 use lib.ListN.{length}
 use lib.Count.{ones}
 use lib.Dec.{eqb}
-use Rattle.logic.specs.Formula.{Formula, Binary, const, lit, un, bin, conj, disj, until, weak, release, strong, implies, F, G, same}
+use Rattle.logic.specs.Formula.{Formula, const, lit, un, bin, conj, disj, isLeastOp, isGreatestOp, F, G, same}
 use Rattle.logic.specs.Rewriting.{steady, recurring, opening}
 
--- U and M, the least fixpoints; W and R, the greatest (document 01: the until-like words)
+-- formulas whose operator is a least or a greatest fixpoint
 abbrev pub isLeast : Formula → Bool
 isLeast (const b) = false
 isLeast (lit b n) = false
 isLeast (un o a) = false
-isLeast (bin conj a b) = false
-isLeast (bin disj a b) = false
-isLeast (bin until a b) = true
-isLeast (bin weak a b) = false
-isLeast (bin release a b) = false
-isLeast (bin strong a b) = true
-isLeast (bin implies a b) = false
+isLeast (bin o a b) = isLeastOp o
 
 abbrev pub isGreatest : Formula → Bool
 isGreatest (const b) = false
 isGreatest (lit b n) = false
 isGreatest (un o a) = false
-isGreatest (bin conj a b) = false
-isGreatest (bin disj a b) = false
-isGreatest (bin until a b) = false
-isGreatest (bin weak a b) = true
-isGreatest (bin release a b) = true
-isGreatest (bin strong a b) = false
-isGreatest (bin implies a b) = false
+isGreatest (bin o a b) = isGreatestOp o
 
 abbrev pub isFixpoint : Formula → Bool
 isFixpoint φ = isLeast φ || isGreatest φ

@@ -1,5 +1,8 @@
--- The laws of a plain form while it is built, and what the step promises.
-pub mod Forming
+-- The laws of a plain form while its draft is filled, and what the step promises.
+pub mod Shapes
 pub mod Words
-pub mod Outcomes
+pub mod Filling
+pub mod Forming
+pub mod Start
 pub mod Promise
+pub mod Step

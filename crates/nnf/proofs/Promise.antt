@@ -2,7 +2,7 @@
 -- accepted plain table, and has at most two words for each written one and two more.
 use Prim.Native.Nat.{ℕ, zero, suc, _+_, _*_, _≤_, _<_}
 use native.Mathlib.Omega.{arith}
-use mathlib.Core.Path.{_≡_, refl, sym, ap, ap₂, _∙_, subst}
+use mathlib.Core.Path.{_≡_, refl, sym, ap₂, _∙_, subst}
 use mathlib.Core.Logic.{_↔_}
 use mathlib.Core.Bool.{Bool, true, false, not}
 use mathlib.Core.List.{List, _++_}
@@ -12,14 +12,16 @@ use Rattle.logic.specs.Lasso.{Lasso, word}
 use Rattle.logic.specs.Semantics.{Holds}
 use Rattle.logic.specs.NegationNormalForm.{plain}
 use Rattle.logic.proofs.Lasso.Duality as duality
-use Rattle.table.specs.declared.refusal.Outcome.{Outcome}
 use Rattle.table.specs.declared.refusal.Outcome.the-variants.{Accepted}
-use Rattle.table.specs.Refusals.{first}
 use Rattle.table.specs.Node.{Shape, none, constant, letter, unary, binary, kind, left, right, shape, leftField, rightField}
 use Rattle.table.specs.Table.{formulas, formulaOf, formulaBy, rule}
 use Rattle.table.specs.Checks.{isOperand, isProposition, checked}
 use Rattle.table.specs.Steps.{plainTable}
-use Rattle.table.specs.StepChecks.{plainChecks}
+use Rattle.table.specs.declared.answer.Answer.the-variants.{Made}
+use Rattle.table.specs.declared.limits.Limits.{Limits}
+use Rattle.table.specs.Numbering.{fits}
+use Rattle.table.specs.Frame.{plainStep, answerOf, resultOf}
+use Rattle.table.proofs.Frame.{made-answer, made-result}
 use Rattle.table.proofs.Accepted.{WellFormedWord, accepted-well-formed, accepted-formula}
 use Rattle.numbering.specs.Held.{Distinct, Held}
 use Rattle.numbering.specs.Letters.{Letters}
@@ -27,12 +29,9 @@ use Rattle.numbering.proofs.Building.{tableOf-distinct}
 use Rattle.numbering.proofs.Built.{Built, Hereditary, tableOf-built, made-held, held-once}
 use Rattle.numbering.proofs.Used.{rule-tableOf}
 use Rattle.numbering.proofs.Accepted.{plain-small, accepted-tableOf}
-use Rattle.numbering.proofs.Putting.{fits-true}
-use Rattle.nnf.specs.declared.Plain.the-variants.{Form}
-use Rattle.nnf.specs.Forming.{formOf, slot}
-use Rattle.nnf.specs.Result.{answerBy, plainAnswer, resultBy, plainResult}
-use Rattle.nnf.proofs.Outcomes.{fitting}
-use Rattle.nnf.proofs.Forming.{slot-same}
+use Rattle.draft.proofs.Putting.{fits-true}
+use Rattle.nnf.specs.Forming.{formOf, slotOf}
+use Rattle.nnf.proofs.Filling.{slot-same, slot-bounds}
 use Rattle.logic.proofs.Pigeonhole.{pigeonhole}
 
 -- the letters of a formula are 1 to 32
@@ -153,10 +152,6 @@ module _ (limit : ℕ) (t : List ℕ) (ok : checked false limit t ≡ Accepted) 
     second = λ o a b f. operands-of (bin o a b) f .1;
   }
 
-slot-below : (p : Bool) (j n : ℕ) → j ≤ n → slot p j < 2 * n + 2
-slot-below true j n h = omega arith
-slot-below false j n h = omega arith
-
 module _ (limit : ℕ) (t : List ℕ) (ok : checked false limit t ≡ Accepted) where
   rule-form : plain true (rule t) ≡ formOf true t (length t)
   unfolding rule
@@ -171,7 +166,7 @@ module _ (limit : ℕ) (t : List ℕ) (ok : checked false limit t ≡ Accepted) 
 
   -- which form a word of the plain form's table is
   code : (i : ℕ) → i < length (plainTable t) → ℕ
-  code i h = let f = forms .formula i h .2 in slot (f .0) (f .1)
+  code i h = let f = forms .formula i h .2 in slotOf (f .0) (f .1)
 
   apart : Distinct (plainTable t)
   unfolding plainTable
@@ -179,7 +174,7 @@ module _ (limit : ℕ) (t : List ℕ) (ok : checked false limit t ≡ Accepted) 
 
   code-below : (i : ℕ) (h : i < length (plainTable t)) → code i h < 2 * length t + 2
   unfolding code
-  code-below i h = let f = forms .formula i h .2 in slot-below (f .0) (f .1) (length t) (f .2)
+  code-below i h = let f = forms .formula i h .2 in omega (arith, slot-bounds (f .0) (f .1) .1, f .2)
 
   code-apart : (i j : ℕ) (h : i < length (plainTable t)) (l : j < length (plainTable t)) → code i h ≡ code j l → i ≡ j
   unfolding code
@@ -214,17 +209,15 @@ module _ (limit : ℕ) (t : List ℕ) (ok : checked false limit t ≡ Accepted) 
     pub plain-holds : (r : Lasso) (i : ℕ) → Holds (word r) (rule (plainTable t)) i ↔ Holds (word r) (rule t) i
     plain-holds r i = rw plain-rule (duality.plain-holds r true (rule t) i)
 
--- the step's own limit of 64 words
-module _ (t : List ℕ) (ok : checked false 64 t ≡ Accepted) where
-  -- a slice of two words for each written one and two more is long enough, so the step answers the form and puts it at the front
-  module _ (result : List ℕ) (long : 2 * length t + 2 ≤ length result) where
-    fits-result : first (plainChecks t (length result)) ≡ Accepted
-    fits-result = fitting t result ok (fits-true (length (plainTable t)) (length result) (omega (arith, plain-length 64 t ok, plain-short 64 t ok, long)))
+-- a slice of two words for each written one and two more is long enough, so the step answers the form and puts it at the front
+module _ (l : Limits) (small : l .written ≤ 8190) (t : List ℕ) (ok : checked false (l .written) t ≡ Accepted) (result : List ℕ) (long : 2 * length t + 2 ≤ length result) where
+  long-enough : fits (length (plainTable t)) (length result) ≡ true
+  long-enough = fits-true (length (plainTable t)) (length result) (omega (arith, plain-length (l .written) t ok, plain-short (l .written) t ok, long))
 
-    pub plain-answered : plainAnswer t (length result) ≡ Form (length (plainTable t))
-    unfolding plainAnswer
-    plain-answered = ap (λ (o : Outcome). answerBy o t) fits-result
+  pub plain-answered : answerOf (plainStep l) t (length result) ≡ Made (length (plainTable t))
+  unfolding checked
+  plain-answered = made-answer (plainStep l) t result ok long-enough
 
-    pub plain-written : plainResult t result ≡ plainTable t ++ drop (length (plainTable t)) result
-    unfolding plainResult
-    plain-written = ap (λ (o : Outcome). resultBy o t result) fits-result
+  pub plain-written : resultOf (plainStep l) t result ≡ plainTable t ++ drop (length (plainTable t)) result
+  unfolding checked
+  plain-written = made-result (plainStep l) t result ok long-enough

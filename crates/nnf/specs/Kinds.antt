@@ -1,16 +1,17 @@
--- The kind of the word that a plain form puts for a word of a written kind.
+-- The kind that a form puts for a word of a written kind.
 use Prim.Native.Nat.{ℕ}
-use mathlib.Core.Bool.{cond}
-use lib.Dec.{eqb}
+use mathlib.Core.Bool.{Bool, true, false, Bool·beq}
+use Rattle.logic.specs.NegationNormalForm as form
+use Rattle.table.specs.Node.{Shape, none, constant, letter, unary, binary, shape, kindOf}
 
--- F becomes U, G becomes R, and implies becomes or; another kind stays
-unfoldable pub unfolded : ℕ → ℕ
-unfolded k = cond (eqb k 13) 8 (cond (eqb k 14) 10 (cond (eqb k 15) 6 k))
+-- a shape as wanted (true) or as denied (false)
+abbrev pub signed : Bool → Shape → Shape
+signed p none = none
+signed p (constant b) = constant (Bool·beq p b)
+signed p (letter b) = letter (Bool·beq p b)
+signed p (unary o) = unary o
+signed p (binary o) = binary (form.signed p o)
 
--- a and b change places
-abbrev pub swap : ℕ → ℕ → ℕ → ℕ
-swap a b k = cond (eqb k a) b (cond (eqb k b) a k)
-
--- false with true, a letter with its negation, and with or, U with R, W with M; another kind stays
-unfoldable pub dual : ℕ → ℕ
-dual k = swap 1 2 (swap 3 4 (swap 5 6 (swap 8 10 (swap 9 11 k))))
+-- the kind that the form puts for a kind
+unfoldable pub signedKind : Bool → ℕ → ℕ
+signedKind p k = kindOf (signed p (shape k))

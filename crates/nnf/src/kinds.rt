@@ -1,34 +1,15 @@
-// The kind of the word that a plain form puts for a word of a written kind.
+// The kind of a word's denial.
 ghost use mathlib.Core.Path.{_≡_};
-ghost use Rattle.nnf.specs.Kinds as kinds;
+ghost use Prim.Native.Nat.{_<_};
+ghost use mathlib.Core.Bool.{false};
+ghost use Rattle.nnf.specs.Kinds.{signedKind};
 
-// F becomes U, G becomes R, and implies becomes or; another kind stays.
-pub fn unfolded(kind: u32) -> u32
-    ensures { λ r. ⌜ r ≡ kinds.unfolded kind ⌝ }
-{
-    match kind {
-        13 => 8,
-        14 => 10,
-        15 => 6,
-        _ => kind,
-    }
-}
+// By kind, from 0 on: false with true, a letter with its negation, and with or, X, U with R and W with M; the others stay.
+const DUALS: [u32; 16] = [0, 2, 1, 4, 3, 6, 5, 7, 10, 11, 8, 9, 12, 13, 14, 15];
 
-// False with true, a letter with its negation, and with or, U with R, W with M; another kind stays.
 pub fn dual(kind: u32) -> u32
-    ensures { λ r. ⌜ r ≡ kinds.dual kind ⌝ }
+    requires { ⌜ kind < 16 ⌝ }
+    ensures { λ r. ⌜ (r ≡ signedKind false kind) × (r < 16) ⌝ }
 {
-    match kind {
-        1 => 2,
-        2 => 1,
-        3 => 4,
-        4 => 3,
-        5 => 6,
-        6 => 5,
-        8 => 10,
-        9 => 11,
-        10 => 8,
-        11 => 9,
-        _ => kind,
-    }
+    DUALS[kind as usize]
 }

@@ -1,44 +1,70 @@
 // The plain-form step: a written table goes in, and its plain form's table comes out at the front of the result.
+use draft::number;
+use draft::put;
+use table::answer::Answer;
+use table::limits::Limits;
 use table::refusal::Outcome;
 use table::refusal::Refusal;
 ghost use mathlib.Core.Path.{_≡_};
+ghost use Prim.Native.Nat.{_≤_, min};
 ghost use lib.ListN.{length};
-ghost use Rattle.nnf.specs.Result.{plainAnswer, plainResult};
+ghost use Rattle.table.specs.Limits.{desk, plainLimit};
+ghost use Rattle.table.specs.Frame.{plainStep, answerOf, resultOf};
+ghost use Rattle.nnf.specs.Written.{slots, Writable, Written};
 
 mod form;
 mod kinds;
+mod source;
 
-// The plain form's length, or why there is none.
-pub enum Plain {
-    Form(usize),
-    Refused(Refusal),
+// Two slots for each of 64 written words, and the constants.
+const SLOTS: usize = 130;
+
+pub fn plain_form(table: &[u32], result: &mut [u32]) -> Answer
+    ensures { λ r. ⌜ r ≡ answerOf (plainStep desk) (now (table .entry)) (length (now (result .entry))) ⌝ }
+    ensures { λ r. ⌜ now (result .exit) ≡ resultOf (plainStep desk) (now (table .entry)) (now (result .entry)) ⌝ }
+{
+    plain_form_within(Limits::desk(), table, result)
 }
 
-pub fn plain_form(table: &[u32], result: &mut [u32]) -> Plain
-    ensures { λ r. ⌜ r ≡ plainAnswer (now (table .entry)) (length (now (result .entry))) ⌝ }
-    ensures { λ r. ⌜ now (result .exit) ≡ plainResult (now (table .entry)) (now (result .entry)) ⌝ }
+// The step by limits for which there are slots. No plain form is longer than the limit allows, so no more of the result than that is lent.
+fn plain_form_within(limits: Limits, table: &[u32], result: &mut [u32]) -> Answer
+    requires { ⌜ plainLimit limits ≤ slots ⌝ }
+    ensures { λ r. ⌜ r ≡ answerOf (plainStep limits) (now (table .entry)) (length (now (result .entry))) ⌝ }
+    ensures { λ r. ⌜ now (result .exit) ≡ resultOf (plainStep limits) (now (table .entry)) (now (result .entry)) ⌝ }
 {
-    match reading::check(table, false, 64) {
-        Outcome::Refused(r) => Plain::Refused(r),
+    match reading::check(table, false, limits.written) {
+        Outcome::Refused(r) => Answer::Refused(r),
         Outcome::Accepted => {
-            let mut count = 0;
-            let mut heads = [0u16; 32768];
-            let mut chain = [0u16; 16384];
-            let mut memo = [0u16; 130];
-            let n = form::wanted(
-                table,
-                result,
-                &mut count,
-                &mut heads,
-                &mut chain,
-                &mut memo,
-                table.len(),
-            );
+            let lent = lesser(result.len(), 2 * limits.written + 2);
+            let n = write(table, &mut result[..lent]);
             if n == 0 {
-                numbering::clear(result);
-                return Plain::Refused(Refusal::ResultTooShort);
+                put::clear(result);
+                return Answer::Refused(Refusal::ResultTooShort);
             }
-            Plain::Form(count)
+            Answer::Made(n)
         }
     }
+}
+
+fn lesser(a: usize, b: usize) -> usize
+    ensures { λ r. ⌜ r ≡ min a b ⌝ }
+{
+    if a < b { a } else { b }
+}
+
+// The plain form's table at the front of the result, and its length; 0 where it does not fit.
+fn write(table: &[u32], result: &mut [u32]) -> usize
+    requires { ⌜ Writable (now table) (now result) ⌝ }
+    ensures { λ r. ⌜ Written (now (table .entry)) (now (result .entry)) (now (result .exit)) r ⌝ }
+{
+    let mut draft = [0u64; SLOTS];
+    let root = form::draft_rule(table, &mut draft);
+    let mut numbers = [0u16; SLOTS];
+    let mut stack = [0u16; SLOTS];
+    let mut index = [0u16; 2 * SLOTS + 2];
+    let last = number::number(&draft, root, &mut numbers, &mut stack, result, &mut index);
+    if last == 0 {
+        return 0;
+    }
+    lookup::count(&index)
 }

@@ -2,8 +2,6 @@
 pub mod Search
 pub mod Building
 pub mod Formulas
-pub mod Putting
-pub mod Placing
 pub mod Built
 pub mod Used
 pub mod Accepted

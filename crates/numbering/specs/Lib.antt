@@ -1,4 +1,3 @@
 -- What a table that is being built holds.
 pub mod Held
 pub mod Letters
-pub mod State

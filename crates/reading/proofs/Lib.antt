@@ -1,4 +1,3 @@
--- The laws of checks in a row, of layouts and of marks.
+-- The laws of checks in a row, and of marks.
 pub mod First
-pub mod Layouts
 pub mod Marking

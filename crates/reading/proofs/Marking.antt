@@ -1,5 +1,5 @@
 -- Marks of operands: none, those of one more word, and the check of one mark after another.
-use Prim.Native.Nat.{ℕ, suc, _-_, _≤_, _<_}
+use Prim.Native.Nat.{ℕ, suc, _-_, _/_, _≤_, _<_}
 use mathlib.Core.Path.{_≡_, refl, sym, _∙_}
 use mathlib.Core.Bool.{Bool, true, false, not, _||_, or-false, or-true, or-assoc}
 use mathlib.Core.List.{List, [], _∷_, _++_}
@@ -12,11 +12,12 @@ use Rattle.table.specs.declared.refusal.Refusal.the-variants.{Unused}
 use Rattle.table.specs.Refusals.{first, decideBy}
 use Rattle.table.specs.Node.{Shape, none, constant, letter, unary, binary, kind, left, right, shape}
 use Rattle.table.specs.Checks.{uses, used, useChecks}
-use Rattle.reading.specs.declared.layout.Layout.{Layout}
-use Rattle.reading.specs.declared.layout.Layout.the-variants.{Constant, Letter, Unary, Binary}
-use Rattle.reading.specs.Layout.{layoutOf}
-use Rattle.reading.specs.Marks.{Marked}
-use Rattle.table.proofs.Fields.{left-lt, right-lt}
+use Rattle.fields.specs.declared.layout.Layout.{Layout}
+use Rattle.fields.specs.declared.layout.Layout.the-variants.{Constant, Letter, Unary, Binary}
+use Rattle.fields.specs.Layout.{layoutOf}
+use Rattle.lookup.proofs.Laws.{indexed-none}
+use Rattle.fields.specs.Marks.{markedBy, markedWith}
+use Rattle.reading.specs.Marks.{Marked, Room, Kept}
 
 used-snoc : (n : ℕ) (t : List ℕ) (w : ℕ) → used n (t ++ (w ∷ [])) ≡ (used n t || uses n w)
 unfolding used
@@ -41,41 +42,52 @@ uses-by-layout n w = go (shape (kind w)) refl
     go (unary o) e = rw e
     go (binary o) e = rw e
 
-mark-set : (marks : List Bool) (a n : ℕ) → a < length marks → getD (set marks a true) n false ≡ (getD marks n false || eqb a n)
+mark-set : (marks : List Bool) (a n : ℕ) → n < length marks → getD (set marks a true) n false ≡ (getD marks n false || eqb a n)
 mark-set marks a n l = go (eqb a n) refl
   where
     go : (b : Bool) → eqb a n ≡ b → getD (set marks a true) n false ≡ (getD marks n false || b)
-    go true e = rw (← eqb-true a n e, or-true) (getD-set-same marks a true false l)
+    go true e = rw (eqb-true a n e, or-true) (getD-set-same marks n true false l)
     go false e = rw or-false (getD-set-other marks a n true false (λ i. eqb-false a n e (sym i)))
 
-pub marked-none : (n : ℕ) → n ≡ 16384 → Marked [] (replicate n false)
+marks-by-layout : (y : Layout) (l r : ℕ) (marks : List Bool) (n : ℕ) → n < length marks → getD (markedBy y l r marks) n false ≡ (getD marks n false || usesBy y l r n)
+marks-by-layout Constant l r marks n h = sym (or-false _)
+marks-by-layout Letter l r marks n h = sym (or-false _)
+marks-by-layout Unary l r marks n h = mark-set marks r n h
+marks-by-layout Binary l r marks n h =
+    mark-set (set marks l true) r n (rw length-set h) ∙ rw (mark-set marks l n h) (or-assoc (getD marks n false) (eqb l n) (eqb r n))
+
+pub length-marks : (y : Layout) (l r : ℕ) (marks : List Bool) → length (markedBy y l r marks) ≡ length marks
+length-marks Constant l r marks = refl
+length-marks Letter l r marks = refl
+length-marks Unary l r marks = length-set marks r true
+length-marks Binary l r marks = simp length-set
+
+marked-none : (n : ℕ) → Marked [] (replicate n false)
 unfolding used
-marked-none n e = record { long = length-replicate n false ∙ e; marked = λ i l. getD-replicate n i false false (omega arith) }
+marked-none n = record { at = λ i l. getD-replicate n i false false (omega (arith, length-replicate n false)) }
 
 -- one word more
-module _ (t : List ℕ) (marks : List Bool) (w : ℕ) (m : Marked t marks) where
-  marked-by : (marks′ : List Bool) → length marks′ ≡ length marks
-      → ((n : ℕ) → getD marks′ n false ≡ (getD marks n false || usesBy (layoutOf (shape (kind w))) (left w) (right w) n))
-      → Marked (t ++ (w ∷ [])) marks′
-  marked-by marks′ e h = record { long = e ∙ m .long; marked = λ n l. h n ∙ rw (used-snoc, uses-by-layout, m .marked n l) }
+pub marked-more : {t : List ℕ} {marks : List Bool} (w : ℕ) → Marked t marks → Marked (t ++ (w ∷ [])) (markedWith w marks)
+marked-more {t} {marks} w m =
+    record {
+      at =
+          λ n h.
+          let l : n < length marks = rw length-marks at h in
+          marks-by-layout (layoutOf (shape (kind w))) (left w) (right w) marks n l ∙ rw (used-snoc, uses-by-layout, m .at n l);
+    }
 
-  pub marked-constant : layoutOf (shape (kind w)) ≡ Constant → Marked (t ++ (w ∷ [])) marks
-  marked-constant e = marked-by marks refl (λ n. rw (e, or-false))
+-- an index and marks of zeros, for k words
+pub room-for : (t : List ℕ) (k n m : ℕ) → length t ≤ k → suc k ≤ n / 2 → k ≤ m → Room t (replicate n 0) (replicate m false)
+room-for t k n m p q r =
+    let zero : ℕ = 0 in
+    record { words = omega (arith, length-replicate n zero); numbers = omega (arith, length-replicate m false) }
 
-  pub marked-letter : layoutOf (shape (kind w)) ≡ Letter → Marked (t ++ (w ∷ [])) marks
-  marked-letter e = marked-by marks refl (λ n. rw (e, or-false))
+-- room is a matter of lengths
+pub room-kept : {t index index′ : List ℕ} {marks marks′ : List Bool} → Room t index marks → length index′ ≡ length index → length marks′ ≡ length marks → Room t index′ marks′
+room-kept r e f = record { words = rw e (r .words); numbers = rw f (r .numbers) }
 
-  pub marked-unary : layoutOf (shape (kind w)) ≡ Unary → Marked (t ++ (w ∷ [])) (set marks (right w) true)
-  marked-unary e = marked-by _ (length-set marks (right w) true) (λ n. rw e (mark-set marks (right w) n (omega (arith, m .long, right-lt w))))
-
-  pub marked-binary : layoutOf (shape (kind w)) ≡ Binary → Marked (t ++ (w ∷ [])) (set (set marks (left w) true) (right w) true)
-  marked-binary e =
-      marked-by _
-      (length-set (set marks (left w) true) (right w) true ∙ length-set marks (left w) true)
-      (λ n.
-      rw e
-      (mark-set (set marks (left w) true) (right w) n (rw length-set (omega (arith, m .long, right-lt w)))
-      ∙ rw (mark-set marks (left w) n (omega (arith, m .long, left-lt w))) (or-assoc (getD marks n false) (eqb (left w) n) (eqb (right w) n))))
+pub kept-none : (n m : ℕ) → 2 ≤ n → n ≤ 32768 → Kept [] (replicate n 0) (replicate m false)
+kept-none n m p q = record { indexed = indexed-none n p q; marked = marked-none m }
 
 -- the use of word n, and then of the ones after it
 pub use-step : (t : List ℕ) (n k : ℕ) → n < k → first (useChecks t n (k - n)) ≡ decideBy (not (used n t)) (Unused n) (first (useChecks t (suc n) (k - suc n)))

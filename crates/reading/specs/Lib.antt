@@ -1,3 +1,3 @@
--- What the fields of a word are checked for by their layout, and what the marks of operands say.
-pub mod Layout
+-- What the marks of operands say, and the checks past those of the whole table.
 pub mod Marks
+pub mod Contents

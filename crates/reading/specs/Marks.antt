@@ -1,19 +1,34 @@
--- The marks of the words that are operands, and what reading all words tells.
-use Prim.Native.Nat.{ℕ, _<_}
+-- What the marks of operands say, and what reading words tells.
+use Prim.Native.Nat.{ℕ, _+_, _≤_, _<_}
 use mathlib.Core.Path.{_≡_}
 use mathlib.Core.Bool.{Bool, false}
 use mathlib.Core.List.{List, []}
-use lib.ListN.{length, getD}
+use lib.ListN.{length, getD, take}
 use Rattle.table.specs.declared.refusal.Outcome.{Outcome}
 use Rattle.table.specs.declared.refusal.Outcome.the-variants.{Accepted}
 use Rattle.table.specs.Refusals.{first}
-use Rattle.table.specs.Checks.{used, wordsChecks}
+use Rattle.table.specs.Checks.{used, wordChecks, wordsChecks}
+use Rattle.lookup.specs.Index.{halfOf, Indexed}
 
 -- a number is marked where a word of t has it for an operand
 pub record Marked (t : List ℕ) (marks : List Bool) : Type 0 where
-  pub long : length marks ≡ 16384
-  pub marked : (n : ℕ) → n < 16384 → getD marks n false ≡ used n t
+  pub at : (n : ℕ) → n < length marks → getD marks n false ≡ used n t
+
+-- there is room for the words of t
+pub record Room (t index : List ℕ) (marks : List Bool) : Type 0 where
+  pub words : length t < halfOf index
+  pub numbers : length t ≤ length marks
+
+-- the words of t are in the index, and their operands marked
+pub record Kept (t index : List ℕ) (marks : List Bool) : Type 0 where
+  pub indexed : Indexed t index
+  pub marked : Marked t marks
+
+-- what reading the word after the first i tells, and what reading all words does
+pub record WordRead (plainOnly : Bool) (t : List ℕ) (i : ℕ) (r : Outcome) (index : List ℕ) (marks : List Bool) : Type 0 where
+  pub answer : r ≡ first (wordChecks plainOnly (take i t) (i + 1) (getD t i 0))
+  pub kept : r ≡ Accepted → Kept (take (i + 1) t) index marks
 
 pub record WordsRead (plainOnly : Bool) (t : List ℕ) (r : Outcome) (marks : List Bool) : Type 0 where
   pub answer : r ≡ first (wordsChecks plainOnly [] t)
-  pub marks-kept : r ≡ Accepted → Marked t marks
+  pub marked : r ≡ Accepted → Marked t marks

@@ -1,6 +1,5 @@
 // The checks of a table of words, numbers 1 to 10, in document 01's order.
-mod fields;
-mod layout;
+mod rooms;
 mod uses;
 mod words;
 
@@ -10,24 +9,28 @@ ghost use mathlib.Core.Path.{_≡_};
 ghost use Prim.Native.Nat.{min};
 ghost use Rattle.table.specs.Checks.{checked};
 
-// Numbers 1 to 10. A table of more than 16,383 words is over every limit.
+// A limit past the table's length asks no more than that length. That the function calls itself also keeps the arrays of the larger
+// rooms out of its frame: the compiler joins no function with large arrays to one that calls itself.
 pub fn check(table: &[u32], plain: bool, limit: usize) -> Outcome
     ensures { λ r. ⌜ r ≡ checked plain (min limit 16383) (now (table .entry)) ⌝ }
 {
+    if table.len() < limit {
+        return check(table, plain, table.len());
+    }
     if table.len() == 0 {
         return Outcome::Refused(Refusal::NoWord);
     }
     if limit < table.len() {
         return Outcome::Refused(Refusal::TooManyWords);
     }
-    if 16383 < table.len() {
-        return Outcome::Refused(Refusal::TooManyWords);
+    if table.len() <= 64 {
+        return rooms::of_64(table, plain);
     }
-    let mut heads = [0u16; 32768];
-    let mut chain = [0u16; 16384];
-    let mut marks = [false; 16384];
-    match words::words_fault(table, plain, &mut heads, &mut chain, &mut marks) {
-        Outcome::Refused(r) => Outcome::Refused(r),
-        Outcome::Accepted => uses::use_fault(table, &marks),
+    if table.len() <= 512 {
+        return rooms::of_512(table, plain);
     }
+    if table.len() <= 16383 {
+        return rooms::of_16383(table, plain);
+    }
+    Outcome::Refused(Refusal::TooManyWords)
 }

@@ -1,60 +1,45 @@
-// The checks of all words in rising order, with the operands marked on the way.
-use crate::fields;
-use crate::uses;
+// The checks of all words in rising order, each put into the index after its checks.
 use table::refusal::Outcome;
 use table::refusal::Refusal;
-ghost use mathlib.Core.Path.{_≡_};
 ghost use mathlib.Core.List.{[]};
-ghost use Prim.Native.Nat.{suc, _<_};
-ghost use lib.ListN.{length, take, getD};
-ghost use Rattle.table.specs.Refusals.{first};
-ghost use Rattle.table.specs.Checks.{wordChecks};
-ghost use Rattle.index.specs.Index.{Indexed};
-ghost use Rattle.reading.specs.Marks.{Marked, WordsRead};
+ghost use Prim.Native.Nat.{_<_};
+ghost use lib.ListN.{length, take};
+ghost use Rattle.reading.specs.Marks.{Room, Kept, WordRead, WordsRead};
 
 // The word after the first `i`, which are in the index.
 fn word_fault(
     words: &[u32],
     i: usize,
     plain: bool,
-    heads: &[u16; 32768],
-    chain: &[u16; 16384],
+    index: &mut [u16],
+    marks: &mut [bool],
 ) -> Outcome
-    requires { ⌜ (i < length (now words)) × (i < 16384) × Indexed (take i (now words)) (now heads) (now chain) ⌝ }
-    ensures { λ r. ⌜ r ≡ first (wordChecks plain (take i (now (words .entry))) (suc i) (getD (now (words .entry)) i 0)) ⌝ }
+    requires { ⌜ (i < length (now words)) × Room (now words) (now index) (now marks) × Kept (take i (now words)) (now index) (now marks) ⌝ }
+    ensures { λ r. ⌜ WordRead plain (now (words .entry)) i r (now (index .exit)) (now (marks .exit)) ⌝ }
 {
     let w = words[i];
-    match fields::fault(w, i + 1, plain) {
+    match fields::fault(w, i + 1, plain, marks) {
         Outcome::Refused(r) => Outcome::Refused(r),
         Outcome::Accepted => {
-            if 0 < index::find(words, i, heads, chain, w) {
+            if 0 < lookup::find(words, &*index, w) {
                 return Outcome::Refused(Refusal::Repeated(i + 1));
             }
+            lookup::add(index, w);
             Outcome::Accepted
         }
     }
 }
 
 // All words, into an empty index and with no operand marked yet.
-pub fn words_fault(
-    words: &[u32],
-    plain: bool,
-    heads: &mut [u16; 32768],
-    chain: &mut [u16; 16384],
-    marks: &mut [bool; 16384],
-) -> Outcome
-    requires { ⌜ (length (now words) < 16384) × Indexed [] (now heads) (now chain) × Marked [] (now marks) ⌝ }
+pub fn words_fault(words: &[u32], plain: bool, index: &mut [u16], marks: &mut [bool]) -> Outcome
+    requires { ⌜ Room (now words) (now index) (now marks) × Kept [] (now index) (now marks) ⌝ }
     ensures { λ r. ⌜ WordsRead plain (now (words .entry)) r (now (marks .exit)) ⌝ }
 {
     let mut i = 0;
     while i < words.len() {
-        match word_fault(words, i, plain, &*heads, &*chain) {
+        match word_fault(words, i, plain, index, marks) {
             Outcome::Refused(r) => return Outcome::Refused(r),
-            Outcome::Accepted => {
-                let w = words[i];
-                index::add(heads, chain, i, w);
-                uses::mark(marks, w);
-            }
+            Outcome::Accepted => {}
         }
         i += 1;
     }

@@ -1,27 +1,17 @@
 -- What is read off a row: the positions that hold, counted word by word, and the first one that fails.
 use mathlib.Core.Path.{_≡_, refl, sym, ap, ap₂, _∙_, subst}
 use mathlib.Core.Bool.{Bool, true, false, not, cond}
-use mathlib.Core.List.{List, [], _∷_, _++_}
+use mathlib.Core.List.{List}
 use Prim.Native.Nat.{ℕ, zero, suc, _+_, _-_, _*_, _/_, _%_, _^_, _≤_, _<_, min}
 use native.Mathlib.Nat.{add-suc, suc-add, add-zero, zero-add, add-assoc}
-use native.Mathlib.Numerals.{add-one}
 use native.Mathlib.Omega.{arith}
-use lib.ListN.{length, getD, take, drop, set, length-drop}
-use lib.Seq.{take-suc, take-suc-set, getD-drop}
+use lib.ListN.{length, getD}
 use lib.Bits.{bitXor}
 use lib.Count.{ones, ones-step, ones-ones, trailingZeros, under}
 use Rattle.logic.specs.Truth.{Sequence}
-use Rattle.rows.specs.Row.{digit, packBits, words, filled, wordOf, row, countTrue, firstFalse}
+use Rattle.rows.specs.Row.{digit, packBits, rowWords, filled, wordOf, row, countTrue, firstFalse}
 use Rattle.rows.proofs.Bits.{pack-half, pack-odd, pack-not}
 use Rattle.rows.proofs.Rows.{row-length, row-word}
-
--- one more word copied
-pub copied : (xs ys : List ℕ) (i at : ℕ) → i < length xs → at + i < length ys → take i xs ≡ take i (drop at ys)
-    → take (i + 1) (set xs i (getD ys (at + i) 0)) ≡ take (i + 1) (drop at ys)
-copied xs ys i at h l e =
-    ap (λ (n : ℕ). take n (set xs i (getD ys (at + i) 0))) (add-one i) ∙ take-suc-set xs i (getD ys (at + i) 0) h
-    ∙ ap₂ (λ (l : List ℕ) (x : ℕ). l ++ (x ∷ [])) e (sym (getD-drop at ys i 0))
-    ∙ sym (take-suc (drop at ys) i 0 (simp length-drop (omega arith))) ∙ ap (λ (n : ℕ). take n (drop at ys)) (sym (add-one i))
 
 -- ---- the positions that hold
 
@@ -38,7 +28,7 @@ pub count-word : (L : ℕ) (f : Sequence) (r : List ℕ) (w held : ℕ) → r �
     → held + ones (getD r w 0) ≡ countTrue f (min ((w + 1) * 64) L)
 unfolding wordOf
 count-word L f r w held e h eh =
-    let l : w < words L = subst (λ (n : ℕ). w < n) (ap length e ∙ row-length L f) h in
+    let l : w < rowWords L = subst (λ (n : ℕ). w < n) (ap length e ∙ row-length L f) h in
     ap₂ (λ (a x : ℕ). a + ones x) (eh ∙ ap (countTrue f) (omega arith)) (ap (λ (xs : List ℕ). getD xs w 0) e ∙ row-word L f w l)
     ∙ sym (count-pack f (w * 64) (filled L w)) ∙ ap (countTrue f) (omega arith)
 

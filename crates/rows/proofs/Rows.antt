@@ -1,57 +1,50 @@
 -- Rows as lists of words: a row is given by its words, and its bits are the sequence.
 use mathlib.Core.Path.{_≡_, refl, sym, ap, ap₂, _∙_}
-use mathlib.Core.Bool.{Bool, true, false, cond}
-use mathlib.Core.List.{List, _++_}
-use Prim.Native.Nat.{ℕ, zero, suc, _+_, _-_, _*_, _/_, _%_, _≤_, _<_}
-use native.Mathlib.Nat.{add-suc, suc-add, add-zero, zero-add, le-of-suc-le-suc, le-of-eq}
+use mathlib.Core.Bool.{Bool, true, false, cond, _&&_, _||_}
+use mathlib.Core.List.{List}
+use Prim.Native.Nat.{ℕ, zero, suc, _+_, _-_, _*_, _/_, _%_, _≤_, _<_, min}
+use native.Mathlib.Nat.{add-suc, suc-add, add-zero, zero-add, le-of-suc-le-suc}
+use native.Mathlib.Decide.{decLe}
 use native.Mathlib.Omega.{arith}
 use borrow.Author.Tests.{lt-ltb, le-ltb, ltb-true, ltb-false, eqb-true, eqb-false}
 use lib.Dec.{eqb, ltb}
-use lib.ListN.{length, getD, take, set}
-use lib.Seq.{getD-take, getD-set-same, getD-set-other, ext-getD, take-at, take-all}
-use Rattle.logic.specs.Truth.{Sequence, sweep}
+use lib.ListN.{length, getD, set}
+use lib.Seq.{getD-set-same, getD-set-other, ext-getD}
+use Rattle.logic.specs.Truth.{Sequence, sweep, shifted, looped}
 use Rattle.logic.proofs.Lasso.Sequence.{sweep-append}
-use Rattle.rows.specs.Row.{bit, packBits, words, filled, wordOf, wordsFrom, row, Written, following, fixpoint}
+use Rattle.rows.specs.Row.{bit, packBits, rowWords, filled, wordOf, wordsFrom, row, Written, wordSweep, nowhere}
 use Rattle.rows.proofs.Bits.{bit-pack, bit-zero, pack-ext}
-use Rattle.rows.proofs.Sweep.{sweep-done}
+use Rattle.rows.proofs.Sweep.{sweep-done, sweep-carry}
 
 -- ---- a row's words
 
-length-words : (L : ℕ) (f : Sequence) (w n : ℕ) → length (wordsFrom L f w n) ≡ n
+length-from : (L : ℕ) (f : Sequence) (w n : ℕ) → length (wordsFrom L f w n) ≡ n
 unfolding wordsFrom
-length-words L f w zero = refl
-length-words L f w (suc n) = ap suc (length-words L f (suc w) n)
+length-from L f w zero = refl
+length-from L f w (suc n) = ap suc (length-from L f (suc w) n)
 
-getD-words : (L : ℕ) (f : Sequence) (w n k : ℕ) → k < n → getD (wordsFrom L f w n) k 0 ≡ wordOf L f (w + k)
+getD-from : (L : ℕ) (f : Sequence) (w n k : ℕ) → k < n → getD (wordsFrom L f w n) k 0 ≡ wordOf L f (w + k)
 unfolding wordsFrom
-getD-words L f w zero k h = absurd (omega arith)
-getD-words L f w (suc n) zero h = ap (wordOf L f) (sym (add-zero w))
-getD-words L f w (suc n) (suc k) h = getD-words L f (suc w) n k (le-of-suc-le-suc h) ∙ ap (wordOf L f) (suc-add w k ∙ sym (add-suc w k))
+getD-from L f w zero k h = absurd (omega arith)
+getD-from L f w (suc n) zero h = ap (wordOf L f) (sym (add-zero w))
+getD-from L f w (suc n) (suc k) h = getD-from L f (suc w) n k (le-of-suc-le-suc h) ∙ ap (wordOf L f) (suc-add w k ∙ sym (add-suc w k))
 
-pub row-length : (L : ℕ) (f : Sequence) → length (row L f) ≡ words L
+pub row-length : (L : ℕ) (f : Sequence) → length (row L f) ≡ rowWords L
 unfolding row
-row-length L f = length-words L f 0 (words L)
+row-length L f = length-from L f 0 (rowWords L)
 
-pub row-word : (L : ℕ) (f : Sequence) (w : ℕ) → w < words L → getD (row L f) w 0 ≡ wordOf L f w
+pub row-word : (L : ℕ) (f : Sequence) (w : ℕ) → w < rowWords L → getD (row L f) w 0 ≡ wordOf L f w
 unfolding row
-row-word L f w h = getD-words L f 0 (words L) w h ∙ ap (wordOf L f) (zero-add w)
-
--- a word of an operand, a list that begins with the row
-pub operand-word : (L : ℕ) (f : Sequence) (a : List ℕ) (w : ℕ) → take (words L) a ≡ row L f → w < words L → getD a w 0 ≡ wordOf L f w
-operand-word L f a w e h = sym (getD-take (words L) a w 0 h) ∙ ap (λ (l : List ℕ). getD l w 0) e ∙ row-word L f w h
-
--- a row at the front of a list is an operand
-pub front-row : (L : ℕ) (f : Sequence) (xs ys : List ℕ) → xs ≡ row L f → take (words L) (xs ++ ys) ≡ row L f
-front-row L f xs ys e = take-at xs ys (words L) (ap length e ∙ row-length L f) ∙ e
+row-word L f w h = getD-from L f 0 (rowWords L) w h ∙ ap (wordOf L f) (zero-add w)
 
 -- ---- a row written word by word
 
 pub written-none : {L : ℕ} {f : Sequence} {r : List ℕ} {lo hi : ℕ} → hi ≤ lo → Written L f lo hi r
 written-none h = record { word = λ w a b. absurd (omega arith) }
 
-pub written-row : {L : ℕ} {f : Sequence} {r : List ℕ} {hi : ℕ} → length r ≡ words L → hi ≡ words L → Written L f 0 hi r → r ≡ row L f
+pub written-row : {L : ℕ} {f : Sequence} {r : List ℕ} {hi : ℕ} → length r ≡ rowWords L → hi ≡ rowWords L → Written L f 0 hi r → r ≡ row L f
 written-row {L} {f} {r} e q h =
-    ext-getD 0 r (row L f) (e ∙ sym (row-length L f)) (λ w l. let m : w < words L = omega arith in h .word w (omega arith) (omega arith) ∙ sym (row-word L f w m))
+    ext-getD 0 r (row L f) (e ∙ sym (row-length L f)) (λ w l. let m : w < rowWords L = omega arith in h .word w (omega arith) (omega arith) ∙ sym (row-word L f w m))
 
 written-one : (L : ℕ) (f : Sequence) (r : List ℕ) (v x w : ℕ) → v < length r → x ≡ wordOf L f v → ((w ≡ v → ⊥) → getD r w 0 ≡ wordOf L f w)
     → getD (set r v x) w 0 ≡ wordOf L f w
@@ -72,6 +65,11 @@ pub written-down : {L : ℕ} {f : Sequence} {r : List ℕ} {u hi : ℕ} → Writ
 written-down {L} {f} {r} {u} {hi} h v {x} q inside here =
     record { word = λ w a b. written-one L f r v x w inside here (λ n. h .word w (omega arith) b) }
 
+-- the words below stay
+pub written-below : {L : ℕ} {f : Sequence} {r : List ℕ} {u : ℕ} → Written L f 0 u r → (v x : ℕ) → v < u → Written L f 0 v (set r v x)
+written-below {L} {f} {r} h v x l =
+    record { word = λ w a b. getD-set-other r v w x 0 (λ e. omega arith) ∙ h .word w a (omega arith) }
+
 -- ---- positions
 
 -- the bit of a position
@@ -84,15 +82,21 @@ pub word-low : (L : ℕ) (f : Sequence) (w : ℕ) → w * 64 < L → eqb (wordOf
 unfolding wordOf
 word-low L f w h = sym (bit-zero (wordOf L f w)) ∙ bit-pack f (w * 64) (filled L w) 0 (omega arith) ∙ ap f (add-zero (w * 64))
 
--- the same of an operand
-pub operand-bit : (L : ℕ) (f : Sequence) (a : List ℕ) (i : ℕ) → take (words L) a ≡ row L f → i < L → bit (getD a (i / 64) 0) (i % 64) ≡ f i
-operand-bit L f a i e h = ap (λ (x : ℕ). bit x (i % 64)) (operand-word L f a (i / 64) e (omega arith)) ∙ word-bit L f i h
+-- the same of a list that is the row
+module _ (L : ℕ) (f : Sequence) (r : List ℕ) (e : r ≡ row L f) where
+  pub in-row : (w : ℕ) → w < rowWords L → getD r w 0 ≡ wordOf L f w
+  in-row w h = ap (λ (l : List ℕ). getD l w 0) e ∙ row-word L f w h
 
-pub row-bit : (L : ℕ) (f : Sequence) (r : List ℕ) (i : ℕ) → r ≡ row L f → i < L → bit (getD r (i / 64) 0) (i % 64) ≡ f i
-row-bit L f r i e h = operand-bit L f r i (take-all (words L) r (le-of-eq (ap length e ∙ row-length L f)) ∙ e) h
+  pub row-bit : (i : ℕ) → i < L → bit (getD r (i / 64) 0) (i % 64) ≡ f i
+  row-bit i h = ap (λ (x : ℕ). bit x (i % 64)) (in-row (i / 64) (omega arith)) ∙ word-bit L f i h
 
-pub operand-low : (L : ℕ) (f : Sequence) (a : List ℕ) (w : ℕ) → take (words L) a ≡ row L f → w * 64 < L → eqb (getD a w 0 % 2) 1 ≡ f (w * 64)
-operand-low L f a w e h = ap (λ (x : ℕ). eqb (x % 2) 1) (operand-word L f a w e (omega arith)) ∙ word-low L f w h
+  pub row-low : (w : ℕ) → w * 64 < L → eqb (getD r w 0 % 2) 1 ≡ f (w * 64)
+  row-low w h = ap (λ (x : ℕ). eqb (x % 2) 1) (in-row w (omega arith)) ∙ word-low L f w h
+
+  -- a word of it is what is packed of the word's positions
+  pub row-pack : (w n : ℕ) → w < rowWords L → n ≡ filled L w → getD r w 0 ≡ packBits f (w * 64) n
+  unfolding wordOf
+  row-pack w n h en = in-row w h ∙ ap (packBits f (w * 64)) (sym en)
 
 word-ext : (L : ℕ) (f g : Sequence) (w : ℕ) → ((i : ℕ) → i < L → f i ≡ g i) → wordOf L f w ≡ wordOf L g w
 unfolding wordOf
@@ -107,10 +111,20 @@ pub pack-word : (L : ℕ) (f : Sequence) (w n x : ℕ) → n ≡ filled L w → 
 unfolding wordOf
 pack-word L f w n x en ex = ex ∙ ap (packBits f (w * 64)) en
 
--- and the other way round, for an operand
-pub operand-pack : (L : ℕ) (f : Sequence) (a : List ℕ) (w n : ℕ) → take (words L) a ≡ row L f → w < words L → n ≡ filled L w → getD a w 0 ≡ packBits f (w * 64) n
+-- a sweep of word w's positions to the word's end
+pub word-swept : (L : ℕ) (G P : Sequence) (c : Bool) (w n : ℕ) → n ≡ filled L w
+    → packBits (λ k. sweep G P c k (w * 64 + n - k)) (w * 64) n ≡ wordOf L (wordSweep L G P c) w
 unfolding wordOf
-operand-pack L f a w n e h en = operand-word L f a w e h ∙ ap (packBits f (w * 64)) (sym en)
+word-swept L G P c w n en =
+    pack-ext _ (wordSweep L G P c) (w * 64) (w * 64) n (λ k l. ap (sweep G P c (w * 64 + k)) (omega arith))
+    ∙ ap (packBits (wordSweep L G P c) (w * 64)) en
+
+-- the bit of a position in what leads down from its word's last one
+pub lead-bit : (L : ℕ) (P : Sequence) (x i : ℕ) {n : ℕ} → i < L
+    → x ≡ packBits (λ k. sweep nowhere P true k (i / 64 * 64 + n - k)) (i / 64 * 64) n → n ≡ filled L (i / 64)
+    → bit x (i % 64) ≡ wordSweep L nowhere P true i
+lead-bit L P x i {n} h e en =
+    ap (λ (y : ℕ). bit y (i % 64)) (e ∙ word-swept L nowhere P true (i / 64) n en) ∙ word-bit L (wordSweep L nowhere P true) i h
 
 -- ---- words from the last one down
 
@@ -142,14 +156,14 @@ sweep-word L G P c carry w u n h eu en ec =
 -- word w one position on, from the value at the first position of the word after, or at the loop start if there is none
 pub next-word : (L s : ℕ) (A : Sequence) (carry : Bool) (w u n : ℕ) → w * 64 < L → u ≡ suc w → n ≡ filled L w
     → carry ≡ cond (ltb (u * 64) L) (A (u * 64)) (A s)
-    → packBits (λ k. cond (ltb (suc k) (w * 64 + n)) (A (suc k)) carry) (w * 64) n ≡ wordOf L (following A L s) w
+    → packBits (λ k. cond (ltb (suc k) (w * 64 + n)) (A (suc k)) carry) (w * 64) n ≡ wordOf L (looped L s shifted A A) w
 unfolding wordOf
 next-word L s A carry w u n h eu en ec =
-    pack-ext _ (following A L s) (w * 64) (w * 64) n (λ k l. here k l (ltb (suc (w * 64 + k)) (w * 64 + n)) refl)
-    ∙ ap (packBits (following A L s) (w * 64)) en
+    pack-ext _ (looped L s shifted A A) (w * 64) (w * 64) n (λ k l. here k l (ltb (suc (w * 64 + k)) (w * 64 + n)) refl)
+    ∙ ap (packBits (looped L s shifted A A) (w * 64)) en
   where
     last : (k : ℕ) → k < n → w * 64 + n ≤ suc (w * 64 + k) → (t : Bool) → ltb (u * 64) L ≡ t
-        → cond t (A (u * 64)) (A s) ≡ following A L s (w * 64 + k)
+        → cond t (A (u * 64)) (A s) ≡ looped L s shifted A A (w * 64 + k)
     last k l m true e =
         let o = ltb-true (u * 64) L e in
         let q : u * 64 ≡ suc (w * 64 + k) = omega arith in
@@ -159,7 +173,7 @@ next-word L s A carry w u n h eu en ec =
         rw (le-ltb (suc (w * 64 + k)) L (omega arith))
 
     here : (k : ℕ) → k < n → (t : Bool) → ltb (suc (w * 64 + k)) (w * 64 + n) ≡ t
-        → cond t (A (suc (w * 64 + k))) carry ≡ following A L s (w * 64 + k)
+        → cond t (A (suc (w * 64 + k))) carry ≡ looped L s shifted A A (w * 64 + k)
     here k l true e =
         let m = ltb-true (suc (w * 64 + k)) (w * 64 + n) e in
         rw (lt-ltb (suc (w * 64 + k)) L (omega arith))
@@ -167,14 +181,35 @@ next-word L s A carry w u n h eu en ec =
         let m = ltb-false (suc (w * 64 + k)) (w * 64 + n) e in
         ec ∙ last k l m (ltb (u * 64) L) refl
 
--- ---- the fixpoint, by two sweeps
+-- ---- a sweep word by word upward
 
--- the first sweep's value at the loop start
-pub sweep-start : (L s : ℕ) (G P : Sequence) (c : Bool) (r : List ℕ) → s < L → Written L (λ i. sweep G P c i (L - i)) (s / 64) (words L) r
-    → bit (getD r (s / 64) 0) (s % 64) ≡ sweep G P c s (L - s)
-sweep-start L s G P c r h e =
-    ap (λ (x : ℕ). bit x (s % 64)) (e .word (s / 64) (omega arith) (omega arith)) ∙ word-bit L (λ i. sweep G P c i (L - i)) s h
+-- the sweep from a position on by what it comes to within the word: a goal is reached; the keep fails; or it is that from the next word on
+module _ (L : ℕ) (G P : Sequence) (c : Bool) (i : ℕ) (h : i < L) where
+  end : ℕ
+  end = min (i / 64 * 64 + 64) L
 
-pub sweep-again : (L s : ℕ) (G P : Sequence) (c d : Bool) (r : List ℕ) → length r ≡ words L → d ≡ sweep G P c s (L - s)
-    → Written L (λ i. sweep G P d i (L - i)) 0 (words L) r → r ≡ row L (fixpoint G P c L s)
-sweep-again L s G P c d r el ed e = written-row el refl e ∙ ap (λ (b : Bool). row L (λ i. sweep G P b i (L - i))) ed
+  cut : sweep G P c i (L - i) ≡ wordSweep L G P false i || (wordSweep L nowhere P true i && sweep G P c end (L - end))
+  unfolding end
+  cut =
+      ap (sweep G P c i) (omega arith)
+      ∙ sweep-append G P c i (end - i) (L - end)
+      ∙ ap (λ (j : ℕ). sweep G P (sweep G P c j (L - end)) i (end - i)) (omega arith)
+      ∙ sweep-carry G P (sweep G P c end (L - end)) i (end - i)
+
+  pub goal-reached : wordSweep L G P false i ≡ true → true ≡ sweep G P c i (L - i)
+  goal-reached e = sym (cut ∙ ap (λ (b : Bool). b || (wordSweep L nowhere P true i && sweep G P c end (L - end))) e)
+
+  pub keep-failed : wordSweep L G P false i ≡ false → wordSweep L nowhere P true i ≡ false → false ≡ sweep G P c i (L - i)
+  keep-failed e d = sym (cut ∙ ap₂ (λ (a b : Bool). a || (b && sweep G P c end (L - end))) e d)
+
+  pub word-passed : wordSweep L G P false i ≡ false → wordSweep L nowhere P true i ≡ true
+      → sweep G P c i (L - i) ≡ sweep G P c (i / 64 * 64 + 64) (L - (i / 64 * 64 + 64))
+  unfolding end
+  word-passed e d =
+      cut ∙ ap₂ (λ (a b : Bool). a || (b && sweep G P c end (L - end))) e d ∙ go (decLe (i / 64 * 64 + 64) L)
+    where
+      go : Dec (i / 64 * 64 + 64 ≤ L) → sweep G P c end (L - end) ≡ sweep G P c (i / 64 * 64 + 64) (L - (i / 64 * 64 + 64))
+      go (yes l) = ap₂ (sweep G P c) (omega arith) (omega arith)
+      go (no l) =
+          sweep-done G P c end (L - end) (omega arith)
+          ∙ sym (sweep-done G P c (i / 64 * 64 + 64) (L - (i / 64 * 64 + 64)) (omega arith))

@@ -2,18 +2,17 @@
 use mathlib.Core.Path.{_≡_, refl, sym, ap, ap₂, _∙_}
 use mathlib.Core.Bool.{Bool, true, false, _&&_, _||_, and-true, and-false, or-false}
 use Prim.Native.Nat.{ℕ, zero, suc, _+_, _/_, _^_, _<_}
-use native.Mathlib.Nat.{add-suc, suc-add, add-zero, zero-add, add-comm}
+use native.Mathlib.Nat.{add-suc, suc-add, add-zero, add-comm}
 use native.Mathlib.Omega.{arith}
 use lib.Bits.{bitAnd, bitOr}
 use Rattle.logic.specs.Truth.{Sequence, sweep}
 use Rattle.logic.proofs.Lasso.Sequence.{sweep-append}
-use Rattle.rows.specs.Row.{bit}
+use Rattle.rows.specs.Row.{bit, nowhere}
 use Rattle.rows.proofs.Bits.{bit-and, bit-or, bit-shr}
 
--- q holds at each of the n positions from i on
-pub throughout : Sequence → ℕ → ℕ → Bool
-throughout q i zero = true
-throughout q i (suc n) = q i && throughout q (suc i) n
+-- what holds k positions after i + 1 holds k + 1 positions after i
+later : (a : Sequence) (i k : ℕ) → a (suc i + k) ≡ a (i + suc k)
+later a i k = ap a (suc-add i k ∙ sym (add-suc i k))
 
 -- a sweep depends on the swept positions alone
 pub sweep-ext : (g q h r : Sequence) (c : Bool) (i j n : ℕ) → ((k : ℕ) → k < n → g (i + k) ≡ h (j + k)) → ((k : ℕ) → k < n → q (i + k) ≡ r (j + k))
@@ -27,7 +26,7 @@ sweep-ext g q h r c i j (suc n) eg eq =
     first a b e = ap a (sym (add-zero i)) ∙ e 0 (omega arith) ∙ ap b (add-zero j)
 
     next : (a b : Sequence) → ((k : ℕ) → k < suc n → a (i + k) ≡ b (j + k)) → (k : ℕ) → k < n → a (suc i + k) ≡ b (suc j + k)
-    next a b e k l = ap a (suc-add i k ∙ sym (add-suc i k)) ∙ e (suc k) (omega arith) ∙ ap b (add-suc j k ∙ sym (suc-add j k))
+    next a b e k l = later a i k ∙ e (suc k) (omega arith) ∙ sym (later b j k)
 
 module _ (g q : Sequence) where
   -- a sweep over no position
@@ -36,58 +35,64 @@ module _ (g q : Sequence) where
   sweep-done c i n e = ap (sweep g q c i) e
 
   -- the carry comes through where q holds all the way
-  pub sweep-carry : (c : Bool) (i n : ℕ) → sweep g q c i n ≡ sweep g q false i n || (throughout q i n && c)
-  unfolding sweep throughout
+  pub sweep-carry : (c : Bool) (i n : ℕ) → sweep g q c i n ≡ sweep g q false i n || (sweep nowhere q true i n && c)
+  unfolding sweep
   sweep-carry c i zero = refl
-  sweep-carry c i (suc n) = ap (λ (b : Bool). g i || (q i && b)) (sweep-carry c (suc i) n) ∙ spread (g i) (q i) (sweep g q false (suc i) n) (throughout q (suc i) n) c
+  sweep-carry c i (suc n) =
+      ap (λ (b : Bool). g i || (q i && b)) (sweep-carry c (suc i) n)
+      ∙ spread (g i) (q i) (sweep g q false (suc i) n) (sweep nowhere q true (suc i) n) c
     where
       spread : (a b s t c : Bool) → a || (b && (s || (t && c))) ≡ (a || (b && s)) || ((b && t) && c)
       spread true b s t c = refl
       spread false true s t c = refl
       spread false false s t c = refl
 
-  pub throughout-add : (i m n : ℕ) → throughout q i (m + n) ≡ throughout q i m && throughout q (i + m) n
-  unfolding throughout
-  throughout-add i zero n = ap₂ (throughout q) (sym (add-zero i)) (zero-add n)
-  throughout-add i (suc m) n =
-      ap (throughout q i) (suc-add m n)
-      ∙ ap (λ (b : Bool). q i && b) (throughout-add (suc i) m n ∙ ap (λ (j : ℕ). throughout q (suc i) m && throughout q j n) (suc-add i m ∙ sym (add-suc i m)))
-      ∙ assoc (q i) (throughout q (suc i) m) (throughout q (i + suc m) n)
-    where
-      assoc : (a b c : Bool) → a && (b && c) ≡ (a && b) && c
-      assoc true b c = refl
-      assoc false b c = refl
-
-  -- a sweep where nothing holds
+  -- a sweep where nothing is a goal
   pub sweep-none : (i n : ℕ) → ((k : ℕ) → k < n → g (i + k) ≡ false) → sweep g q false i n ≡ false
   unfolding sweep
   sweep-none i zero e = refl
   sweep-none i (suc n) e =
       ap₂ (λ (a b : Bool). a || (q i && b)) (ap g (sym (add-zero i)) ∙ e 0 (omega arith))
-      (sweep-none (suc i) n (λ k l. ap g (suc-add i k ∙ sym (add-suc i k)) ∙ e (suc k) (omega arith)))
-      ∙ none (q i)
-    where
-      none : (a : Bool) → a && false ≡ false
-      none true = refl
-      none false = refl
+      (sweep-none (suc i) n (λ k l. later g i k ∙ e (suc k) (omega arith)))
+      ∙ and-false (q i)
+
+-- the keep alone: all the way, cut in two, and not all the way
+module _ (q : Sequence) where
+  pub keep-append : (i m n : ℕ) → sweep nowhere q true i (m + n) ≡ sweep nowhere q true i m && sweep nowhere q true (i + m) n
+  keep-append i m n =
+      sweep-append nowhere q true i m n
+      ∙ sweep-carry nowhere q (sweep nowhere q true (i + m) n) i m
+      ∙ ap (λ (b : Bool). b || (sweep nowhere q true i m && sweep nowhere q true (i + m) n)) (sweep-none nowhere q i m (λ k l. refl))
+
+  pub keep-all : (i n : ℕ) → ((k : ℕ) → k < n → q (i + k) ≡ true) → sweep nowhere q true i n ≡ true
+  unfolding sweep
+  keep-all i zero e = refl
+  keep-all i (suc n) e =
+      ap₂ _&&_ (ap q (sym (add-zero i)) ∙ e 0 (omega arith)) (keep-all (suc i) n (λ k l. later q i k ∙ e (suc k) (omega arith)))
+
+  pub keep-fails : (i n k : ℕ) → k < n → q (i + k) ≡ false → sweep nowhere q true i n ≡ false
+  unfolding sweep
+  keep-fails i zero k l e = absurd (omega arith)
+  keep-fails i (suc n) zero l e = ap (λ (b : Bool). b && sweep nowhere q true (suc i) n) (ap q (sym (add-zero i)) ∙ e)
+  keep-fails i (suc n) (suc k) l e = ap (λ (b : Bool). q i && b) (keep-fails (suc i) n k (omega arith) (later q i k ∙ e)) ∙ and-false (q i)
 
 -- What the words x and y hold of G and P after doublings up to width d: at bit k of x the sweep over the d positions from k on, with nothing
 -- carried in, and at bit k of y whether P holds throughout them.
 pub record Swept (G P : Sequence) (d x y : ℕ) : Type 0 where
   pub reached : (k : ℕ) → bit x k ≡ sweep G P false k d
-  pub carried : (k : ℕ) → bit y k ≡ throughout P k d
+  pub kept : (k : ℕ) → bit y k ≡ sweep nowhere P true k d
 
 pub swept-one : (x y : ℕ) → Swept (bit x) (bit y) 1 x y
-unfolding sweep throughout
-swept-one x y = record { reached = λ k. rw (and-false, or-false); carried = λ k. sym (and-true (bit y k)) }
+unfolding sweep
+swept-one x y = record { reached = λ k. rw (and-false, or-false); kept = λ k. sym (and-true (bit y k)) }
 
 -- one doubling
 pub doubling : (G P : Sequence) (d x y : ℕ) → Swept G P d x y → Swept G P (d + d) (bitOr x (bitAnd y (x / 2 ^ d))) (bitAnd y (y / 2 ^ d))
 doubling G P d x y s = record {
   reached = λ k. bit-or x (bitAnd y (x / 2 ^ d)) k
-      ∙ ap₂ _||_ (s .reached k) (bit-and y (x / 2 ^ d) k ∙ ap₂ _&&_ (s .carried k) (bit-shr x d k ∙ s .reached (d + k)))
-      ∙ ap (λ (j : ℕ). sweep G P false k d || (throughout P k d && sweep G P false j d)) (add-comm d k)
+      ∙ ap₂ _||_ (s .reached k) (bit-and y (x / 2 ^ d) k ∙ ap₂ _&&_ (s .kept k) (bit-shr x d k ∙ s .reached (d + k)))
+      ∙ ap (λ (j : ℕ). sweep G P false k d || (sweep nowhere P true k d && sweep G P false j d)) (add-comm d k)
       ∙ sym (sweep-carry G P (sweep G P false (k + d) d) k d) ∙ sym (sweep-append G P false k d d);
-  carried = λ k. bit-and y (y / 2 ^ d) k ∙ ap₂ _&&_ (s .carried k) (bit-shr y d k ∙ s .carried (d + k))
-      ∙ ap (λ (j : ℕ). throughout P k d && throughout P j d) (add-comm d k) ∙ sym (throughout-add G P k d d);
+  kept = λ k. bit-and y (y / 2 ^ d) k ∙ ap₂ _&&_ (s .kept k) (bit-shr y d k ∙ s .kept (d + k))
+      ∙ ap (λ (j : ℕ). sweep nowhere P true k d && sweep nowhere P true j d) (add-comm d k) ∙ sym (keep-append P k d d);
 }

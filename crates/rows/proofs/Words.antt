@@ -1,20 +1,22 @@
 -- The laws of one word of a row, an operation each.
 use mathlib.Core.Path.{_≡_, refl, sym, ap, ap₂, _∙_}
-use mathlib.Core.Bool.{Bool, true, false, not, cond, _&&_, _||_, and-true, Bool·beq}
+use mathlib.Core.Bool.{Bool, true, false, not, cond, _&&_, _||_, and-true, Bool·beq, Bool·not-not}
 use Prim.Native.Nat.{ℕ, zero, suc, _+_, _-_, _*_, _/_, _%_, _^_, _≤_, _<_}
-use native.Mathlib.Nat.{add-assoc, add-sub-of-le, one-mul, mod-lt, lt-of-lt-of-le}
+use native.Mathlib.Nat.{add-assoc, add-sub-of-le, one-mul, mod-lt, lt-of-lt-of-le, lt-of-le-of-lt, not-le-of-lt, pow-suc}
+use native.Mathlib.Decide.{decLt}
 use native.Mathlib.Omega.{arith}
-use borrow.Author.Tests.{eq-eqb, ne-eqb, ltb-true, ltb-false}
+use borrow.Author.Tests.{eq-eqb, ne-eqb, lt-ltb, le-ltb, ltb-true, ltb-false}
 use lib.Dec.{eqb, ltb}
 use lib.Pow.{high, ones-split, ones-lt, shl-exact, pow-mono}
-use lib.Bits.{bitAnd, bitOr, bitXor}
+use lib.Bits.{bitOr, bitXor}
+use lib.Count.{leadingZeros, leading-top}
 use Rattle.logic.specs.Lasso.{letterIn}
 use Rattle.logic.specs.Truth.{Sequence, sweep}
 use Rattle.logic.proofs.Lasso.Sequence.{sweep-append}
-use Rattle.rows.specs.Row.{bit, digit, packBits}
+use Rattle.rows.specs.Row.{bit, digit, packBits, nowhere}
 use Rattle.rows.specs.Writing.{literal}
-use Rattle.rows.proofs.Bits.{bit-pack, bit-above, pack-lt, pack-ext, pack-and, pack-or, pack-not, pack-top, pack-shift, packed-all}
-use Rattle.rows.proofs.Sweep.{sweep-ext, sweep-none}
+use Rattle.rows.proofs.Bits.{bit-pack, bit-above, pack-lt, pack-ext, pack-or, pack-not, pack-ones, pack-top, pack-shift, packed, packed-all}
+use Rattle.rows.proofs.Sweep.{sweep-ext, sweep-none, sweep-carry, keep-all, keep-fails}
 
 -- n ones are 64 of them, shifted
 pub shifted-ones : (n : ℕ) → n ≤ 64 → 18446744073709551615 / 2 ^ (64 - n) ≡ 2 ^ n - 1
@@ -83,7 +85,7 @@ module _ (G P : Sequence) (i n g p r : ℕ) (few : n ≤ 64) (eg : g ≡ packBit
   within' m k j e l = ap (λ (x : ℕ). bit x (k + j)) ep ∙ bit-pack P i n (k + j) (omega arith) ∙ ap P (sym (add-assoc i k j))
 
   -- so 64 positions swept are the n positions swept
-  pack-sweep : r ≡ packBits (λ k. sweep G P false k (i + n - k)) i n
+  pub pack-sweep : r ≡ packBits (λ k. sweep G P false k (i + n - k)) i n
   pack-sweep =
       packed-all (λ k. sweep G P false k (i + n - k)) i n r
       (λ k l. swept k ∙ ap (sweep (bit g) (bit p) false k) (split k l) ∙ sweep-append (bit g) (bit p) false k (n - k) (64 - (n - k))
@@ -98,50 +100,84 @@ module _ (G P : Sequence) (i n g p r : ℕ) (few : n ≤ 64) (eg : g ≡ packBit
       ends : (k : ℕ) → k < n → n - k ≡ i + n - (i + k)
       ends k l = omega arith
 
--- ---- the carry comes in at the last position
+-- ---- the ones that lead down from the last position
 
-pack-carried : (G P : Sequence) (i n : ℕ)
-    → bitOr (packBits G i (suc n)) (bitAnd (packBits P i (suc n)) (2 ^ n)) ≡ packBits (λ k. G k || (P k && eqb (suc k) (i + suc n))) i (suc n)
-pack-carried G P i n =
-    ap (λ (x : ℕ). bitOr (packBits G i (suc n)) (bitAnd (packBits P i (suc n)) x)) (pack-top i (i + suc n) n refl)
-    ∙ ap (bitOr (packBits G i (suc n))) (pack-and P (λ k. eqb (suc k) (i + suc n)) i (suc n))
-    ∙ pack-or G (λ k. P k && eqb (suc k) (i + suc n)) i (suc n)
-
--- and then nothing more has to be carried in
-sweep-carried : (G P : Sequence) (e k m : ℕ) → k + suc m ≡ e → sweep (λ j. G j || (P j && eqb (suc j) e)) P false k (suc m) ≡ sweep G P true k (suc m)
-unfolding sweep
-sweep-carried G P e k zero h = last (G k) (P k) (eqb (suc k) e) (eq-eqb (suc k) e (omega arith))
+-- bit k of m ones
+ones-bit : (m k : ℕ) → bit (2 ^ m - 1) k ≡ ltb k m
+ones-bit m k = go (ltb k m) refl
   where
-    last : (g p t : Bool) → t ≡ true → (g || (p && t)) || (p && false) ≡ g || (p && true)
-    last true p t q = refl
-    last false true t q = ap (λ (b : Bool). b || false) q
-    last false false t q = refl
-sweep-carried G P e k (suc m) h =
-    before (G k) (P k) (eqb (suc k) e) _ _ (ne-eqb (suc k) e (λ q. omega arith)) (sweep-carried G P e (suc k) m (omega arith))
-  where
-    before : (g p t s u : Bool) → t ≡ false → s ≡ u → (g || (p && t)) || (p && s) ≡ g || (p && u)
-    before true p t s u q v = refl
-    before false true t s u q v = ap₂ _||_ q v
-    before false false t s u q v = refl
+    go : (t : Bool) → ltb k m ≡ t → bit (2 ^ m - 1) k ≡ t
+    go true e = ap (λ (x : ℕ). bit x k) (pack-ones 0 m) ∙ bit-pack (λ j. true) 0 m k (ltb-true k m e)
+    go false e = bit-above (2 ^ m - 1) m k (ones-lt m) (ltb-false k m e)
 
--- what the doublings leave, with nothing carried in, and with the carry put in at the last position
-pub fill-law : (G P : Sequence) (i n g p r : ℕ) (carry : Bool) → carry ≡ false → n ≤ 64 → g ≡ packBits G i n → p ≡ packBits P i n
-    → ((k : ℕ) → bit r k ≡ sweep (bit g) (bit p) false k 64) → r ≡ packBits (λ k. sweep G P carry k (i + n - k)) i n
-fill-law G P i n g p r carry e few eg ep swept = rw e (pack-sweep G P i n g p r few eg ep swept)
+module _ (P : Sequence) (i n t : ℕ) (et : t ≡ packBits (λ k. not (P k)) i n) where
+  -- a bit of the denial
+  kept : (k : ℕ) (b : Bool) → k < n → bit t k ≡ b → P (i + k) ≡ not b
+  kept k b l e =
+      sym (Bool·not-not (P (i + k))) ∙ ap not (sym (bit-pack (λ j. not (P j)) i n k l) ∙ ap (λ (x : ℕ). bit x k) (sym et) ∙ e)
 
-pub fill-carry-law : (G P : Sequence) (i n g p r : ℕ) (carry : Bool) → carry ≡ true → 1 ≤ n → n ≤ 64 → g ≡ packBits G i n → p ≡ packBits P i n
-    → ((k : ℕ) → bit r k ≡ sweep (bit (bitOr g (bitAnd p (1 * 2 ^ (n - 1) % 2 ^ 64)))) (bit p) false k 64)
-    → r ≡ packBits (λ k. sweep G P carry k (i + n - k)) i n
-fill-carry-law G P i zero g p r carry e l few eg ep swept = absurd (omega arith)
-fill-carry-law G P i (suc n) g p r carry e l few eg ep swept =
-    rw e
-    (pack-sweep (λ k. G k || (P k && eqb (suc k) (i + suc n))) P i (suc n) (bitOr g (bitAnd p (1 * 2 ^ (suc n - 1) % 2 ^ 64))) p r few
-    (rw (last-bit n few, eg, ep) (pack-carried G P i n)) ep swept
-    ∙ pack-ext _ (λ k. sweep G P true k (i + suc n - k)) i i (suc n)
-    (λ k m. ap (sweep _ P false (i + k)) (left k m) ∙ sweep-carried G P (i + suc n) (i + k) (n - k) (omega arith) ∙ ap (sweep G P true (i + k)) (sym (left k m))))
-  where
-    left : (k : ℕ) → k < suc n → i + suc n - (i + k) ≡ suc (n - k)
-    left k m = omega arith
+  -- nothing is denied
+  pub lead-all : t ≡ 0 → 2 ^ n - 1 ≡ packBits (λ k. sweep nowhere P true k (i + n - k)) i n
+  lead-all z =
+      pack-ones i n
+      ∙ pack-ext (λ k. true) _ i i n
+      (λ k l. sym (keep-all P (i + k) (i + n - (i + k))
+      (λ j m. ap P (add-assoc i k j) ∙ kept (k + j) false (omega arith) (ap (λ (x : ℕ). bit x (k + j)) z ∙ bit-above 0 0 (k + j) (omega arith) (omega arith)))))
+
+  -- the highest bit of the denial is bit j: from there down the keep fails
+  pub lead-from : (j : ℕ) → 2 ^ j ≤ t → t < 2 ^ suc j → bitXor (2 ^ n - 1) (2 ^ suc j - 1) ≡ packBits (λ k. sweep nowhere P true k (i + n - k)) i n
+  unfolding bit
+  lead-from j low high' =
+      ap (bitXor (2 ^ n - 1)) (packed (λ k. ltb k (i + suc j)) i n (2 ^ suc j - 1) (lt-of-lt-of-le (ones-lt (suc j)) (pow-mono inside)) (λ k l. ones-bit (suc j) k ∙ moved k))
+      ∙ pack-not (λ k. ltb k (i + suc j)) i n
+      ∙ pack-ext (λ k. not (ltb k (i + suc j))) _ i i n (λ k l. here k l (ltb (i + k) (i + suc j)) refl)
+    where
+      small : t < 2 ^ n
+      small = rw et (pack-lt (λ k. not (P k)) i n)
+
+      inside : j < n
+      inside = elim (decLt j n) [ yes h ↦ h | no h ↦ absurd (not-le-of-lt (lt-of-le-of-lt low small) (pow-mono (omega arith))) ]
+
+      moved : (k : ℕ) → ltb k (suc j) ≡ ltb (i + k) (i + suc j)
+      moved k = elim (decLt k (suc j)) [
+        | yes h ↦ lt-ltb k (suc j) h ∙ sym (lt-ltb (i + k) (i + suc j) (omega arith))
+        | no h ↦ le-ltb k (suc j) (omega arith) ∙ sym (le-ltb (i + k) (i + suc j) (omega arith))
+      ]
+
+      top : bit t j ≡ true
+      top =
+          let e : t ≡ 1 * 2 ^ j + (t - 2 ^ j) = omega arith in
+          ap (λ (x : ℕ). eqb (x / 2 ^ j % 2) 1) e
+          ∙ ap (λ (x : ℕ). eqb (x % 2) 1) (high 1 j (omega (arith, pow-suc 2 j)))
+
+      here : (k : ℕ) → k < n → (b : Bool) → ltb (i + k) (i + suc j) ≡ b → not b ≡ sweep nowhere P true (i + k) (i + n - (i + k))
+      here k l true e =
+          let m : i + k < i + suc j = ltb-true (i + k) (i + suc j) e in
+          sym (keep-fails P (i + k) (i + n - (i + k)) (j - k) (omega (arith, inside)) (ap P (omega arith) ∙ kept j true inside top))
+      here k l false e =
+          let m : i + suc j ≤ i + k = ltb-false (i + k) (i + suc j) e in
+          sym (keep-all P (i + k) (i + n - (i + k)) (λ d o. ap P (add-assoc i k d) ∙ kept (k + d) false (omega arith) (bit-above t (suc j) (k + d) high' (omega arith))))
+
+-- 64 ones, shifted by the leading zeros of a number that is not 0, end with its highest bit
+pub lead-law : (P : Sequence) (i n p all : ℕ) → n ≤ 64 → all ≡ 2 ^ n - 1 → p ≡ packBits P i n → (bitXor all p ≡ 0 → ⊥)
+    → bitXor all (18446744073709551615 / 2 ^ leadingZeros 64 (bitXor all p)) ≡ packBits (λ k. sweep nowhere P true k (i + n - k)) i n
+lead-law P i n p all few ea ep some =
+    let t : ℕ = bitXor all p in
+    let et : t ≡ packBits (λ k. not (P k)) i n = ap₂ bitXor ea ep ∙ pack-not P i n in
+    let top = leading-top 64 t (omega (arith, some)) (lt-of-lt-of-le (rw et (pack-lt (λ k. not (P k)) i n)) (pow-mono few)) in
+    let zeros : leadingZeros 64 t ≡ 64 - suc (top .0) = omega (arith, top .1) in
+    ap₂ bitXor ea (ap (λ (z : ℕ). 18446744073709551615 / 2 ^ z) zeros ∙ shifted-ones (suc (top .0)) (omega (arith, top .1)))
+    ∙ lead-from P i n t et (top .0) (top .2) (top .3)
+
+-- a sweep with nothing carried in, and where the keep holds to the end
+pub carried-law : (G P : Sequence) (i n x l : ℕ) → x ≡ packBits (λ k. sweep G P false k (i + n - k)) i n
+    → l ≡ packBits (λ k. sweep nowhere P true k (i + n - k)) i n → bitOr x l ≡ packBits (λ k. sweep G P true k (i + n - k)) i n
+carried-law G P i n x l ex el =
+    ap₂ bitOr ex el
+    ∙ pack-or (λ k. sweep G P false k (i + n - k)) (λ k. sweep nowhere P true k (i + n - k)) i n
+    ∙ pack-ext _ (λ k. sweep G P true k (i + n - k)) i i n
+    (λ k m. sym (sweep-carry G P true (i + k) (i + n - (i + k))
+    ∙ ap (λ (b : Bool). sweep G P false (i + k) (i + n - (i + k)) || b) (and-true (sweep nowhere P true (i + k) (i + n - (i + k))))))
 
 -- ---- letters
 

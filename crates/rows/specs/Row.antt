@@ -6,7 +6,7 @@ use Prim.Native.Nat.{ℕ, zero, suc, _+_, _-_, _*_, _/_, _%_, _^_, _≤_, _<_, m
 use mathlib.Core.Bool.{Bool, true, false, cond}
 use mathlib.Core.List.{List, [], _∷_}
 use lib.ListN.{getD}
-use lib.Dec.{eqb, ltb}
+use lib.Dec.{eqb}
 use Rattle.logic.specs.Truth.{Sequence, sweep}
 
 -- bit k of a number, bit 0 the lowest
@@ -23,8 +23,8 @@ packBits f i zero = 0
 packBits f i (suc n) = packBits f (suc i) n * 2 + digit (f i)
 
 -- how many words L positions take, and how many of the positions stand in word w
-abbrev pub words : ℕ → ℕ
-words L = (L + 63) / 64
+abbrev pub rowWords : ℕ → ℕ
+rowWords L = (L + 63) / 64
 
 abbrev pub filled : ℕ → ℕ → ℕ
 filled L w = min 64 (L - w * 64)
@@ -39,19 +39,19 @@ wordsFrom L f w zero = []
 wordsFrom L f w (suc n) = wordOf L f w ∷ wordsFrom L f (suc w) n
 
 unfoldable pub row : ℕ → Sequence → List ℕ
-row L f = wordsFrom L f 0 (words L)
+row L f = wordsFrom L f 0 (rowWords L)
 
 -- words lo to hi - 1 of a list are those of the row of a sequence
 pub record Written (L : ℕ) (f : Sequence) (lo hi : ℕ) (r : List ℕ) : Type 0 where
   pub word : (w : ℕ) → lo ≤ w → w < hi → getD r w 0 ≡ wordOf L f w
 
--- the value at the position after i, of L positions with loop start s
-abbrev pub following : Sequence → ℕ → ℕ → Sequence
-following f L s i = cond (ltb (suc i) L) (f (suc i)) (f s)
+-- a sweep that ends with the word of its position
+abbrev pub wordSweep : ℕ → Sequence → Sequence → Bool → Sequence
+wordSweep L g q c i = sweep g q c i (min (i / 64 * 64 + 64) L - i)
 
--- a fixpoint over L positions with loop start s, by two backward sweeps: the first gives the value at the loop start, the second starts from it
-abbrev pub fixpoint : Sequence → Sequence → Bool → ℕ → ℕ → Sequence
-fixpoint g q c L s i = sweep g q (sweep g q c s (L - s)) i (L - i)
+-- a goal that is nowhere: a sweep for it asks that the keep holds all the way
+abbrev pub nowhere : Sequence
+nowhere i = false
 
 -- how many of the n first positions hold
 unfoldable pub countTrue : Sequence → ℕ → ℕ

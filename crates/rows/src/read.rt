@@ -1,25 +1,13 @@
 // What is read off a row.
 ghost use mathlib.Core.Path.{_≡_};
-ghost use Prim.Native.Nat.{ℕ, _+_, _/_, _≤_, _<_};
-ghost use lib.ListN.{length, take, drop};
+ghost use Prim.Native.Nat.{ℕ, _/_, _≤_, _<_};
+ghost use lib.ListN.{length};
 ghost use Rattle.logic.specs.Truth.{Sequence};
 ghost use Rattle.rows.specs.Row as rows;
 ghost use Rattle.rows.specs.Writing.{RowFor};
 use super::word::bit;
 use super::word::filled;
 use super::word::ones;
-
-// A row copied out of the scratch, to the first words of an array.
-pub fn load(scratch: &[u64], at: usize, words: usize, copy: &mut [u64; 64])
-    requires { ⌜ (at + words ≤ length (now scratch)) × (words ≤ 64) × (length (now copy) ≡ 64) ⌝ }
-    ensures { λ _. ⌜ (length (now (copy .exit)) ≡ 64) × (take words (now (copy .exit)) ≡ take words (drop at (now (scratch .entry)))) ⌝ }
-{
-    let mut i = 0;
-    while i < words {
-        copy[i] = scratch[at + i];
-        i += 1;
-    }
-}
 
 // Whether the row holds at a position.
 pub fn holds_at(row: &[u64], i: usize) -> bool

@@ -1,20 +1,13 @@
 // One word of a row at a time: n positions, 1 to 64 of them, in the n low bits, and nothing above them.
 ghost use mathlib.Core.Path.{_≡_};
-ghost use mathlib.Core.Bool.{false, cond};
+ghost use mathlib.Core.Bool.{true, false, cond};
 ghost use Prim.Native.Nat.{ℕ, suc, _+_, _-_, _*_, _^_, _≤_, _<_};
 ghost use lib.Dec.{ltb};
 ghost use lib.ListN.{length, getD};
-ghost use Rattle.logic.specs.Truth.{Sequence, sweep};
+ghost use Rattle.logic.specs.Truth.{Sequence, sweep, across};
 ghost use Rattle.rows.specs.Row as rows;
 ghost use Rattle.rows.specs.Writing as writing;
-
-// The connectives that work position by position.
-pub enum Connective {
-    And,
-    Or,
-    Implies,
-    Not,
-}
+use super::connective::Connective;
 
 // How many of the positions stand in word w of their row.
 pub fn filled(positions: usize, w: usize) -> usize
@@ -55,20 +48,29 @@ pub fn constant(value: bool, n: usize) -> u64
 // A connective at n positions at once.
 pub fn join(op: Connective, x: u64, y: u64, n: usize) -> u64
     requires { ⌜ (1 ≤ n) × (n ≤ 64) ⌝ }
-    ensures { λ r. ⌜ ((A B : Sequence) (i : ℕ) → x ≡ rows.packBits A i n → y ≡ rows.packBits B i n → r ≡ rows.packBits (λ k. writing.joins op (A k) (B k)) i n) ⌝ }
+    ensures { λ r. ⌜ ((A B : Sequence) (i : ℕ)
+        → x ≡ rows.packBits A i n
+        → y ≡ rows.packBits B i n
+        → r ≡ rows.packBits (across (writing.joins op) A B) i n) ⌝ }
 {
     match op {
+        Connective::Never => 0,
+        Connective::Always => ones(n),
+        Connective::Left => x,
+        Connective::Right => y,
         Connective::And => x & y,
         Connective::Or => x | y,
         Connective::Implies => (ones(n) ^ x) | y,
-        Connective::Not => ones(n) ^ x,
+        Connective::Not => ones(n) ^ y,
     }
 }
 
 // The next position's value at n positions: the last one takes the carry.
 pub fn shift(x: u64, carry: bool, n: usize) -> u64
     requires { ⌜ (1 ≤ n) × (n ≤ 64) ⌝ }
-    ensures { λ r. ⌜ ((A : Sequence) (i : ℕ) → x ≡ rows.packBits A i n → r ≡ rows.packBits (λ k. cond (ltb (suc k) (i + n)) (A (suc k)) carry) i n) ⌝ }
+    ensures { λ r. ⌜ ((A : Sequence) (i : ℕ)
+        → x ≡ rows.packBits A i n
+        → r ≡ rows.packBits (λ k. cond (ltb (suc k) (i + n)) (A (suc k)) carry) i n) ⌝ }
 {
     let half = x >> 1;
     if carry {
@@ -77,21 +79,13 @@ pub fn shift(x: u64, carry: bool, n: usize) -> u64
     half
 }
 
-// A backward sweep over n positions, in six doublings: once the width is d, bit k of g says whether the sweep over the d positions
-// from k on holds, and bit k of p whether p holds throughout them. The carry comes in at the last position.
-pub fn fill(g: u64, p: u64, carry: bool, n: usize) -> u64
-    requires { ⌜ (1 ≤ n) × (n ≤ 64) ⌝ }
-    ensures { λ r. ⌜ ((G P : Sequence) (i : ℕ) → g ≡ rows.packBits G i n → p ≡ rows.packBits P i n → r ≡ rows.packBits (λ k. sweep G P carry k (i + n - k)) i n) ⌝ }
-{
-    if carry {
-        return closed(g | (p & (1u64 << (n - 1))), p);
-    }
-    closed(g, p)
-}
-
-// The six doublings, with nothing carried in.
-fn closed(g: u64, p: u64) -> u64
-    ensures { λ r. ⌜ ((k : ℕ) → rows.bit r k ≡ sweep (rows.bit g) (rows.bit p) false k 64) ⌝ }
+// A backward sweep with nothing carried in, in six doublings: once the width is d, bit k of g says whether the sweep over the d
+// positions from k on holds, and bit k of p whether p holds throughout them.
+pub fn closed(g: u64, p: u64) -> u64
+    ensures { λ r. ⌜ ((G P : Sequence) (i n : ℕ) → n ≤ 64
+        → g ≡ rows.packBits G i n
+        → p ≡ rows.packBits P i n
+        → r ≡ rows.packBits (λ k. sweep G P false k (i + n - k)) i n) ⌝ }
 {
     let g2 = g | (p & (g >> 1));
     let p2 = p & (p >> 1);
@@ -104,6 +98,35 @@ fn closed(g: u64, p: u64) -> u64
     let g32 = g16 | (p16 & (g16 >> 16));
     let p32 = p16 & (p16 >> 16);
     g32 | (p32 & (g32 >> 32))
+}
+
+// The ones of p that lead down from the last of the n positions: where p holds from there to the end.
+pub fn lead(p: u64, n: usize) -> u64
+    requires { ⌜ (1 ≤ n) × (n ≤ 64) ⌝ }
+    ensures { λ r. ⌜ ((P : Sequence) (i : ℕ)
+        → p ≡ rows.packBits P i n
+        → r ≡ rows.packBits (λ k. sweep rows.nowhere P true k (i + n - k)) i n) ⌝ }
+{
+    let all = ones(n);
+    let denied = all ^ p;
+    if denied == 0 {
+        return all;
+    }
+    all ^ (u64::MAX >> u64::leading_zeros(denied))
+}
+
+// A sweep x with nothing carried in, with the carry joined to it: it comes through where p holds all the way.
+pub fn carried(x: u64, p: u64, carry: bool, n: usize) -> u64
+    requires { ⌜ (1 ≤ n) × (n ≤ 64) ⌝ }
+    ensures { λ r. ⌜ ((G P : Sequence) (i : ℕ)
+        → x ≡ rows.packBits (λ k. sweep G P false k (i + n - k)) i n
+        → p ≡ rows.packBits P i n
+        → r ≡ rows.packBits (λ k. sweep G P carry k (i + n - k)) i n) ⌝ }
+{
+    if carry {
+        return x | lead(p, n);
+    }
+    x
 }
 
 // A letter, or its denial, at the n samples from the first on.

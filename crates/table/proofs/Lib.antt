@@ -4,4 +4,5 @@ pub mod Fields
 pub mod Shapes
 pub mod Formulas
 pub mod Accepted
+pub mod Frame
 pub mod Cases

@@ -1,10 +1,13 @@
 -- The shapes of the kinds of the operators, and of the words made for them.
-use Prim.Native.Nat.{ℕ, _<_}
+use Prim.Native.Nat.{ℕ, zero, suc, _<_}
+use native.Mathlib.Nat.{not-suc-le-zero, le-of-suc-le-suc, eq-or-lt-of-le}
 use mathlib.Core.Path.{_≡_, refl, ap, _∙_}
-use mathlib.Core.Bool.{Bool, true, false, cond}
-use lib.Dec.{lit<}
+use mathlib.Core.Bool.{Bool, true, false, cond, _&&_, false≢true}
+use mathlib.Core.Logic.{_⊎_, inl, inr}
+use lib.Dec.{lit<, eqb}
+use borrow.Author.Tests.{eqb-true}
 use Rattle.logic.specs.Formula.{Unary, Binary, next, neg, finally, globally, conj, disj, until, weak, release, strong, implies}
-use Rattle.table.specs.Node.{constant, letter, unary, binary, kind, pack, shape, unaryKind, binaryKind}
+use Rattle.table.specs.Node.{Shape, none, constant, letter, unary, binary, kind, pack, shape, unaryKind, binaryKind, kindOf}
 use Rattle.table.specs.Numbering.{constantWord, literalWord}
 use Rattle.table.proofs.Fields.{kind-pack}
 
@@ -35,6 +38,34 @@ pub shape-letter : (b : Bool) → shape (cond b 3 4) ≡ letter b
 unfolding shape
 shape-letter true = refl
 shape-letter false = refl
+
+-- `kindOf` undoes `shape`, and `shape` undoes `kindOf`
+pub shape-kindOf : (s : Shape) → shape (kindOf s) ≡ s
+unfolding shape
+shape-kindOf none = refl
+shape-kindOf (constant b) = shape-constant b
+shape-kindOf (letter b) = shape-letter b
+shape-kindOf (unary o) = shape-unary o
+shape-kindOf (binary o) = shape-binary o
+
+-- a test that is passed below n
+passes : (ℕ → Bool) → ℕ → Bool
+passes p zero = true
+passes p (suc n) = p n && passes p n
+
+passes-at : (p : ℕ → Bool) (n k : ℕ) → passes p n ≡ true → k < n → p k ≡ true
+unfolding passes
+passes-at p zero k e h = absurd (not-suc-le-zero h)
+passes-at p (suc n) k e h = go (p n) refl (passes-at p n k) e (eq-or-lt-of-le (le-of-suc-le-suc h))
+  where
+    go : (b : Bool) → p n ≡ b → (passes p n ≡ true → k < n → p k ≡ true) → (b && passes p n) ≡ true → (k ≡ n) ⊎ (k < n) → p k ≡ true
+    go true b f e (inl q) = ap p q ∙ b
+    go true b f e (inr q) = f e q
+    go false b f e q = absurd (false≢true e)
+
+pub kindOf-shape : (k : ℕ) → k < 16 → kindOf (shape k) ≡ k
+unfolding shape passes
+kindOf-shape k h = eqb-true _ _ (passes-at (λ n. eqb (kindOf (shape n)) n) 16 k refl h)
 
 -- what the words of the operators are, by shape
 pub shape-constantWord : (b : Bool) → shape (kind (constantWord b)) ≡ constant b

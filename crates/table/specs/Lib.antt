@@ -6,4 +6,6 @@ pub mod Checks
 pub mod Numbering
 pub mod Steps
 pub mod StepChecks
+pub mod Limits
+pub mod Frame
 pub mod Cases

@@ -1,6 +1,6 @@
 -- A word of a table (a node): the kind in the top 4 bits, the left field in the next 14, the right field in the low 14.
 use Prim.Native.Nat.{ℕ, zero, suc, _+_, _*_, _/_, _%_, _^_}
-use mathlib.Core.Bool.{Bool, true, false}
+use mathlib.Core.Bool.{Bool, true, false, cond}
 use mathlib.Core.List.{List, [], _∷_}
 use lib.ListN.{getD}
 use Rattle.logic.specs.Formula.{Formula, Unary, Binary, const, lit, un, bin, next, neg, finally, globally, conj, disj, until, weak, release, strong, implies}
@@ -51,6 +51,14 @@ binaryKind weak = 9
 binaryKind release = 10
 binaryKind strong = 11
 binaryKind implies = 15
+
+-- the kind of each shape, by which `shape` is undone
+abbrev pub kindOf : Shape → ℕ
+kindOf none = 0
+kindOf (constant b) = cond b 2 1
+kindOf (letter b) = cond b 3 4
+kindOf (unary o) = unaryKind o
+kindOf (binary o) = binaryKind o
 
 -- what a field holds
 pub data Field : Type 0 where

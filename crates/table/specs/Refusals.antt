@@ -4,58 +4,54 @@ use mathlib.Core.Bool.{Bool, true, false}
 use mathlib.Core.List.{List, [], _∷_}
 use Rattle.table.specs.declared.refusal.Refusal.{Refusal}
 use Rattle.table.specs.declared.refusal.Refusal.the-variants.{NoWord, TooManyWords, KindZero, NotPlain, OperandZero, OperandNotEarlier, LetterOutOfRange, FieldNotZero, Repeated, Unused, TooManyFixpoints, ResultTooShort, NoSample, TooManySamples, LoopStartOutside, ScratchTooShort, TallyFull, NotWords}
+use Rattle.table.specs.declared.refusal.Report.{Report}
 use Rattle.table.specs.declared.refusal.Outcome.{Outcome}
 use Rattle.table.specs.declared.refusal.Outcome.the-variants.{Accepted, Refused}
 
-abbrev pub numberOf : Refusal → ℕ
-numberOf NoWord = 1
-numberOf TooManyWords = 2
-numberOf (KindZero n) = 3
-numberOf (NotPlain n) = 4
-numberOf (OperandZero n) = 5
-numberOf (OperandNotEarlier n) = 6
-numberOf (LetterOutOfRange n) = 7
-numberOf (FieldNotZero n) = 8
-numberOf (Repeated n) = 9
-numberOf (Unused n) = 10
-numberOf (TooManyFixpoints n) = 11
-numberOf ResultTooShort = 12
-numberOf NoSample = 13
-numberOf TooManySamples = 14
-numberOf LoopStartOutside = 15
-numberOf ScratchTooShort = 16
-numberOf TallyFull = 17
-numberOf NotWords = 18
+-- a refusal of the whole call, and one at a word
+abbrev whole : ℕ → Report
+whole n = record { 0 = n; 1 = 0 }
 
--- the number of the faulty word for 3 to 11, and 0 otherwise
+abbrev at : ℕ → ℕ → Report
+at n word = record { 0 = n; 1 = word }
+
+-- the place is the number of the faulty word for 3 to 11, and 0 otherwise
+abbrev pub reportOf : Refusal → Report
+reportOf NoWord = whole 1
+reportOf TooManyWords = whole 2
+reportOf (KindZero word) = at 3 word
+reportOf (NotPlain word) = at 4 word
+reportOf (OperandZero word) = at 5 word
+reportOf (OperandNotEarlier word) = at 6 word
+reportOf (LetterOutOfRange word) = at 7 word
+reportOf (FieldNotZero word) = at 8 word
+reportOf (Repeated word) = at 9 word
+reportOf (Unused word) = at 10 word
+reportOf (TooManyFixpoints word) = at 11 word
+reportOf ResultTooShort = whole 12
+reportOf NoSample = whole 13
+reportOf TooManySamples = whole 14
+reportOf LoopStartOutside = whole 15
+reportOf ScratchTooShort = whole 16
+reportOf TallyFull = whole 17
+reportOf NotWords = whole 18
+
+abbrev pub numberOf : Refusal → ℕ
+numberOf r = reportOf r .0
+
 abbrev pub placeOf : Refusal → ℕ
-placeOf NoWord = 0
-placeOf TooManyWords = 0
-placeOf (KindZero n) = n
-placeOf (NotPlain n) = n
-placeOf (OperandZero n) = n
-placeOf (OperandNotEarlier n) = n
-placeOf (LetterOutOfRange n) = n
-placeOf (FieldNotZero n) = n
-placeOf (Repeated n) = n
-placeOf (Unused n) = n
-placeOf (TooManyFixpoints n) = n
-placeOf ResultTooShort = 0
-placeOf NoSample = 0
-placeOf TooManySamples = 0
-placeOf LoopStartOutside = 0
-placeOf ScratchTooShort = 0
-placeOf TallyFull = 0
-placeOf NotWords = 0
+placeOf r = reportOf r .1
 
 -- an outcome as two numbers, both 0 where the call is accepted
+abbrev pub outcomeReport : Outcome → Report
+outcomeReport Accepted = whole 0
+outcomeReport (Refused r) = reportOf r
+
 abbrev pub outcomeNumber : Outcome → ℕ
-outcomeNumber Accepted = 0
-outcomeNumber (Refused r) = numberOf r
+outcomeNumber o = outcomeReport o .0
 
 abbrev pub outcomePlace : Outcome → ℕ
-outcomePlace Accepted = 0
-outcomePlace (Refused r) = placeOf r
+outcomePlace o = outcomeReport o .1
 
 -- a condition with what it refuses for
 pub record Check : Type 0 where

@@ -1,6 +1,6 @@
 // Why a call is refused, a case for each number of document 01's check table, with the place of a faulty word.
 ghost use mathlib.Core.Path.{_≡_};
-ghost use Rattle.table.specs.Refusals.{numberOf, placeOf};
+ghost use Rattle.table.specs.Refusals.{reportOf, outcomeReport};
 
 pub enum Refusal {
     NoWord,
@@ -29,52 +29,39 @@ pub enum Outcome {
     Refused(Refusal),
 }
 
-pub fn number(r: Refusal) -> u32
-    ensures { λ n. ⌜ n ≡ numberOf r ⌝ }
+// Document 01's number of a refusal, and the place of the faulty word, 0 where it has none.
+pub struct Report(pub u32, pub usize);
+
+pub fn report_of(r: Refusal) -> Report
+    ensures { λ s. ⌜ s ≡ reportOf r ⌝ }
 {
     match r {
-        Refusal::NoWord => 1,
-        Refusal::TooManyWords => 2,
-        Refusal::KindZero(_) => 3,
-        Refusal::NotPlain(_) => 4,
-        Refusal::OperandZero(_) => 5,
-        Refusal::OperandNotEarlier(_) => 6,
-        Refusal::LetterOutOfRange(_) => 7,
-        Refusal::FieldNotZero(_) => 8,
-        Refusal::Repeated(_) => 9,
-        Refusal::Unused(_) => 10,
-        Refusal::TooManyFixpoints(_) => 11,
-        Refusal::ResultTooShort => 12,
-        Refusal::NoSample => 13,
-        Refusal::TooManySamples => 14,
-        Refusal::LoopStartOutside => 15,
-        Refusal::ScratchTooShort => 16,
-        Refusal::TallyFull => 17,
-        Refusal::NotWords => 18,
+        Refusal::NoWord => Report(1, 0),
+        Refusal::TooManyWords => Report(2, 0),
+        Refusal::KindZero(n) => Report(3, n),
+        Refusal::NotPlain(n) => Report(4, n),
+        Refusal::OperandZero(n) => Report(5, n),
+        Refusal::OperandNotEarlier(n) => Report(6, n),
+        Refusal::LetterOutOfRange(n) => Report(7, n),
+        Refusal::FieldNotZero(n) => Report(8, n),
+        Refusal::Repeated(n) => Report(9, n),
+        Refusal::Unused(n) => Report(10, n),
+        Refusal::TooManyFixpoints(n) => Report(11, n),
+        Refusal::ResultTooShort => Report(12, 0),
+        Refusal::NoSample => Report(13, 0),
+        Refusal::TooManySamples => Report(14, 0),
+        Refusal::LoopStartOutside => Report(15, 0),
+        Refusal::ScratchTooShort => Report(16, 0),
+        Refusal::TallyFull => Report(17, 0),
+        Refusal::NotWords => Report(18, 0),
     }
 }
 
-pub fn place(r: Refusal) -> usize
-    ensures { λ n. ⌜ n ≡ placeOf r ⌝ }
+pub fn outcome_report(o: Outcome) -> Report
+    ensures { λ s. ⌜ s ≡ outcomeReport o ⌝ }
 {
-    match r {
-        Refusal::KindZero(n) => n,
-        Refusal::NotPlain(n) => n,
-        Refusal::OperandZero(n) => n,
-        Refusal::OperandNotEarlier(n) => n,
-        Refusal::LetterOutOfRange(n) => n,
-        Refusal::FieldNotZero(n) => n,
-        Refusal::Repeated(n) => n,
-        Refusal::Unused(n) => n,
-        Refusal::TooManyFixpoints(n) => n,
-        Refusal::NoWord => 0,
-        Refusal::TooManyWords => 0,
-        Refusal::ResultTooShort => 0,
-        Refusal::NoSample => 0,
-        Refusal::TooManySamples => 0,
-        Refusal::LoopStartOutside => 0,
-        Refusal::ScratchTooShort => 0,
-        Refusal::TallyFull => 0,
-        Refusal::NotWords => 0,
+    match o {
+        Outcome::Accepted => Report(0, 0),
+        Outcome::Refused(r) => report_of(r),
     }
 }

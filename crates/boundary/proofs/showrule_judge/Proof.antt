@@ -1,6 +1,6 @@
 use mathlib.Core.Path.{ap, _∙_}
 use Rattle.evaluation.specs.declared.answer.Judged.{Judged}
-use Rattle.boundary.specs.Replies.{judgedNumber, judgedHolds, judgedMoments, judgedFailing, judgedPlace}
+use Rattle.evaluation.specs.Answers.{said}
 use borrow.Author.Needs.{needs}
 use Rattle.boundary.proofs.showrule_judge.Statement.{statement}
 use Rattle.boundary.proofs.showrule_judge.Tie as tie
@@ -8,16 +8,16 @@ use Rattle.boundary.proofs.showrule_judge.Tie as tie
 returns : tie.Need-returns
 returns c =
     let e = c .before .before .before .before .before .before .before .before .judge .ensures in
-    let a = ap (λ (j : Judged). j .answer) (e .0) in
+    let a = ap (λ (j : Judged). said (j .answer)) (e .0) in
     let r = c .judge-reply .ensures in (
       record {
-        is-number = r .0 ∙ ap judgedNumber a;
+        is-number = r .0 ∙ ap (λ s. s .number) a;
         is-judged = ap (λ (j : Judged). j .tally .judged) (e .0);
         is-held = ap (λ (j : Judged). j .tally .held) (e .0);
-        is-holds = r .1 .0 ∙ ap judgedHolds a;
-        is-moments = r .1 .1 .0 ∙ ap judgedMoments a;
-        is-failing = r .1 .1 .1 .0 ∙ ap judgedFailing a;
-        is-place = r .1 .1 .1 .1 ∙ ap judgedPlace a;
+        is-holds = r .1 .0 ∙ ap (λ s. s .holds) a;
+        is-moments = r .1 .1 .0 ∙ ap (λ s. s .moments) a;
+        is-failing = r .1 .1 .1 .0 ∙ ap (λ s. s .failing) a;
+        is-place = r .1 .1 .1 .1 ∙ ap (λ s. s .place) a;
       },
       e .1,
     )

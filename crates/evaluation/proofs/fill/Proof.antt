@@ -5,15 +5,6 @@ use Rattle.evaluation.specs.Judging.{rowOutcome, scratchAfter}
 use Rattle.evaluation.proofs.fill.Statement.{statement}
 use Rattle.evaluation.proofs.fill.Tie as tie
 
-check-row-requires : tie.Need-check-row-requires
-check-row-requires c κs = search needs
-
-enum-known-why : tie.Need-enum-known-why
-enum-known-why c = search needs
-
-enum-told : tie.Need-enum-told
-enum-told c = search needs
-
 fill-rows-requires : tie.Need-fill-rows-requires
 unfolding rowOutcome
 fill-rows-requires c κs = sym (c .before .before .before .check-row .ensures) ∙ c .before .enum-told .given .1
@@ -21,9 +12,6 @@ fill-rows-requires c κs = sym (c .before .before .before .check-row .ensures) �
 returns : tie.Need-returns
 unfolding rowOutcome scratchAfter
 returns c = (sym (c .before .why .given .1) ∙ c .before .before .before .check-row .ensures, refl)
-
-same-length : tie.Need-same-length
-same-length c = search needs
 
 returns-2 : tie.Need-returns-2
 unfolding rowOutcome scratchAfter
@@ -33,10 +21,4 @@ pub fill-spec : {M : Type 1} → statement M
 fill-spec =
     tie.close
     (tie.spec
-    check-row-requires
-    enum-known-why
-    enum-told
-    fill-rows-requires
-    returns
-    same-length
-    returns-2)
+    (search needs) (search needs) (search needs) fill-rows-requires returns (search needs) returns-2)

@@ -6,15 +6,6 @@ use Rattle.evaluation.specs.Judging.{judgeOutcome}
 use Rattle.evaluation.proofs.judge.Statement.{statement}
 use Rattle.evaluation.proofs.judge.Tie as tie
 
-check-judge-requires : tie.Need-check-judge-requires
-check-judge-requires c κs = search needs
-
-enum-known-why : tie.Need-enum-known-why
-enum-known-why c = search needs
-
-enum-told : tie.Need-enum-told
-enum-told c = search needs
-
 judge-accepted-requires : tie.Need-judge-accepted-requires
 unfolding judgeOutcome
 judge-accepted-requires c κs = sym (c .before .before .before .check-judge .ensures) ∙ c .before .enum-told .given .1
@@ -24,9 +15,6 @@ unfolding judgeOutcome
 returns c =
     let told = sym (c .before .before .before .check-judge .ensures) ∙ c .before .why .given .1 in
     (refused-reply _ _ _ _ _ _ told, refused-scratch _ _ _ _ told)
-
-same-length : tie.Need-same-length
-same-length c = search needs
 
 returns-2 : tie.Need-returns-2
 unfolding judgeOutcome
@@ -38,10 +26,4 @@ pub judge-spec : {M : Type 1} → statement M
 judge-spec =
     tie.close
     (tie.spec
-    check-judge-requires
-    enum-known-why
-    enum-told
-    judge-accepted-requires
-    returns
-    same-length
-    returns-2)
+    (search needs) (search needs) (search needs) judge-accepted-requires returns (search needs) returns-2)

@@ -39,20 +39,11 @@ add-to c = omega (arith, small c)
 mul-read-answer : tie.Need-mul-read-answer
 mul-read-answer c = omega (arith, small c)
 
-sub-read-answer : tie.Need-sub-read-answer
-sub-read-answer c = search needs
-
-part-read-answer-start : tie.Need-part-read-answer-start
-part-read-answer-start c = search needs
-
 part-read-answer-end : tie.Need-part-read-answer-end
 part-read-answer-end c = last-end _ _ _ _ _ (still-accepted (c .before .before .before .before)) (c .before .row-words .ensures)
 
 read-answer-requires : tie.Need-read-answer-requires
 read-answer-requires c κs = last-for _ _ _ _ _ (still-accepted (c .before .before .before .before .before)) (c .before .before .row-words .ensures)
-
-same-length : tie.Need-same-length
-same-length c = search needs
 
 returns : tie.Need-returns
 returns c = (
@@ -67,15 +58,5 @@ pub judge-accepted-spec : {M : Type 1} → statement M
 judge-accepted-spec =
     tie.close
     (tie.spec
-    fill-rows-requires
-    row-words-requires
-    sub-from
-    mul-from
-    add-to
-    mul-read-answer
-    sub-read-answer
-    part-read-answer-start
-    part-read-answer-end
-    read-answer-requires
-    same-length
-    returns)
+    fill-rows-requires row-words-requires sub-from mul-from add-to mul-read-answer (search needs) (search needs)
+    part-read-answer-end read-answer-requires (search needs) returns)

@@ -6,18 +6,6 @@ use Rattle.evaluation.specs.Tallies.{tallyAfter}
 use Rattle.evaluation.proofs.read_answer.Statement.{statement}
 use Rattle.evaluation.proofs.read_answer.Tie as tie
 
-holds-at-requires : tie.Need-holds-at-requires
-holds-at-requires c κs = search needs
-
-count-held-requires : tie.Need-count-held-requires
-count-held-requires c κs = search needs
-
-first-failing-requires : tie.Need-first-failing-requires
-first-failing-requires c κs = search needs
-
-after-requires : tie.Need-after-requires
-after-requires c κs = search needs
-
 returns : tie.Need-returns
 returns c f h =
     let holds = c .before .before .before .holds-at .ensures _ f h (search needs) in (
@@ -28,4 +16,4 @@ returns c f h =
 pub read-answer-spec : {M : Type 1} → statement M
 read-answer-spec =
     tie.close
-    (tie.spec holds-at-requires count-held-requires first-failing-requires after-requires returns)
+    (tie.spec (search needs) (search needs) (search needs) (search needs) returns)

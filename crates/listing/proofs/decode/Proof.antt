@@ -5,7 +5,7 @@ use mathlib.Core.Logic.{⊎-elim}
 use mathlib.Core.List.{_++_}
 use native.Mathlib.Omega.{arith}
 use lib.ListN.{length, drop, length-set}
-use Rattle.listing.specs.Listing.{wordsFrom}
+use Rattle.listing.specs.Listing.{decoded}
 use Rattle.listing.proofs.Words.{word-more}
 use Rattle.listing.proofs.decode.Statement.{statement}
 use Rattle.listing.proofs.decode.Tie as tie
@@ -13,13 +13,13 @@ use Rattle.listing.proofs.decode.Tie as tie
 abbrev Inv-loop : tie.InvT-loop
 Inv-loop bytes out₀ n i₀ out i =
     (i ≤ n) × (n ≤ length bytes / 4) × (n ≤ length out₀) × (length out ≡ length out₀)
-    × (out ≡ wordsFrom bytes 0 i ++ drop i out₀) × (n ≡ min (length bytes / 4) (length out₀))
+    × (out ≡ decoded bytes 0 i ++ drop i out₀) × (n ≡ min (length bytes / 4) (length out₀))
 
 abbrev μ-loop : tie.MeasureT-loop
 μ-loop bytes out₀ n i₀ out i = n - i
 
 loop-holds : tie.Need-loop-holds Inv-loop μ-loop
-unfolding wordsFrom
+unfolding decoded
 loop-holds c = ⊎-elim (λ w. (omega arith, omega arith, omega arith, refl, refl, omega arith)) (λ w. (omega arith, omega arith, omega arith, refl, refl, omega arith)) (c .if1 .came)
 
 loop-again : tie.Need-loop-again Inv-loop μ-loop

@@ -9,7 +9,7 @@ use Rattle.logic.specs.Formula.{Formula, Binary, const, lit, un, bin, ne
 use Rattle.logic.specs.Lasso.{Lasso, letterIn, word}
 use Rattle.logic.specs.Semantics.{Holds}
 use Rattle.logic.specs.NegationNormalForm.{dual, signed, plain, plainBinary, isPlain}
-use Rattle.logic.specs.Truth.{Sequence, sweep, both, binaryB, truth}
+use Rattle.logic.specs.Truth.{Sequence, sweep, across, applied, binaryOperation, truth}
 use Rattle.logic.proofs.Tests.{T-and, →-iff}
 use Rattle.logic.proofs.Lasso.Period.{size}
 use Rattle.logic.proofs.Lasso.Truth.{truth-holds}
@@ -27,7 +27,7 @@ denied-denied : (f : Sequence) → denied (denied f) ≡ f
 denied-denied f = fun-ext (λ i. Bool·not-not (f i))
 
 -- a sweep denied: its goal is now where neither holds, and it goes on while the old goal does not hold
-pub sweep-dual : (f g : Sequence) (c : Bool) (i n : ℕ) → not (sweep g f c i n) ≡ sweep (both (denied f) (denied g)) (denied g) (not c) i n
+pub sweep-dual : (f g : Sequence) (c : Bool) (i n : ℕ) → not (sweep g f c i n) ≡ sweep (across _&&_ (denied f) (denied g)) (denied g) (not c) i n
 unfolding sweep
 sweep-dual f g c i zero = refl
 sweep-dual f g c i (suc n) =
@@ -41,9 +41,9 @@ sweep-dual f g c i (suc n) =
     step false false x = refl
 
 -- the same law read from the denials
-pub dual-sweep : (f g : Sequence) (c : Bool) (i n : ℕ) → sweep (denied g) (denied f) (not c) i n ≡ not (sweep (both f g) g c i n)
+pub dual-sweep : (f g : Sequence) (c : Bool) (i n : ℕ) → sweep (denied g) (denied f) (not c) i n ≡ not (sweep (across _&&_ f g) g c i n)
 dual-sweep f g c i n =
-    let e : not (sweep (denied g) (denied f) (not c) i n) ≡ sweep (both f g) g c i n
+    let e : not (sweep (denied g) (denied f) (not c) i n) ≡ sweep (across _&&_ f g) g c i n
     = rw (denied-denied f, denied-denied g, Bool·not-not c) at (sweep-dual (denied f) (denied g) (not c) i n) in
     sym (Bool·not-not (sweep (denied g) (denied f) (not c) i n)) ∙ ap not e
 
@@ -56,7 +56,7 @@ or-dual true b = refl
 or-dual false b = refl
 
 -- the dual of a plain operator, of denied operands, denies it
-binary-dual : (L : ℕ) (o : Binary) → T (plainBinary o) → (f g : Sequence) (i : ℕ) → binaryB L (dual o) (denied f) (denied g) i ≡ not (binaryB L o f g i)
+binary-dual : (L : ℕ) (o : Binary) → T (plainBinary o) → (f g : Sequence) (i : ℕ) → applied L (binaryOperation (dual o)) (denied f) (denied g) i ≡ not (applied L (binaryOperation o) f g i)
 binary-dual L conj t f g i = or-dual (f i) (g i)
 binary-dual L disj t f g i = and-dual (f i) (g i)
 binary-dual L until t f g i = sym (sweep-dual f g false i L)
@@ -65,7 +65,7 @@ binary-dual L release t f g i = dual-sweep f g true i L
 binary-dual L strong t f g i = dual-sweep f g false i L
 binary-dual L implies t f g i = absurd t
 
-binary-signed : (L : ℕ) (p : Bool) (o : Binary) → T (plainBinary o) → (f g : Sequence) → binaryB L (signed p o) (sign p f) (sign p g) ≡ sign p (binaryB L o f g)
+binary-signed : (L : ℕ) (p : Bool) (o : Binary) → T (plainBinary o) → (f g : Sequence) → applied L (binaryOperation (signed p o)) (sign p f) (sign p g) ≡ sign p (applied L (binaryOperation o) f g)
 binary-signed L true o t f g = refl
 binary-signed L false o t f g = fun-ext (binary-dual L o t f g)
 
@@ -107,9 +107,9 @@ beq-assoc false false false = refl
 
 -- truth of a plain operator, as wanted or as denied, from that of its operands
 operands : (r : Lasso) (p : Bool) (o : Binary) → T (plainBinary o) → (a b : Formula) (f g : Sequence)
-    → truth r a ≡ sign p f → truth r b ≡ sign p g → truth r (bin (signed p o) a b) ≡ sign p (binaryB (size r) o f g)
+    → truth r a ≡ sign p f → truth r b ≡ sign p g → truth r (bin (signed p o) a b) ≡ sign p (applied (size r) (binaryOperation o) f g)
 unfolding truth
-operands r p o t a b f g α β = ap₂ (binaryB (size r) (signed p o)) α β ∙ binary-signed (size r) p o t f g
+operands r p o t a b f g α β = ap₂ (applied (size r) (binaryOperation (signed p o))) α β ∙ binary-signed (size r) p o t f g
 
 plain-sign : (r : Lasso) (p : Bool) (φ : Formula) → truth r (plain p φ) ≡ sign p (truth r φ)
 unfolding truth plain

@@ -1,16 +1,16 @@
 -- A lasso repeats from its loop start on, and so does the truth of every formula.
 use Prim.Native.Nat.{ℕ, suc, _+_, _-_, _%_, _≤_, _<_}
 use mathlib.Core.Path.{_≡_, refl, sym, ap, ap₂, _∙_}
-use mathlib.Core.Bool.{Bool, true, false, not, _&&_, _||_, cond, Bool·beq}
+use mathlib.Core.Bool.{Bool, true, false, cond, Bool·beq}
 use native.Mathlib.Nat.{suc-add, mod-eq-of-lt, mod-lt, add-mod-right}
 use native.Mathlib.Omega.{arith}
 use native.Mathlib.Decide.{decLt}
 use lib.ListN.{length, getD}
 use lib.Dec.{ltb}
 use borrow.Author.Tests.{ltb-true, lt-ltb}
-use Rattle.logic.specs.Formula.{Formula, Unary, Binary, const, lit, un, bin, next, neg, finally, globally, conj, disj, until, weak, release, strong, implies}
+use Rattle.logic.specs.Formula.{Formula, const, lit, un, bin}
 use Rattle.logic.specs.Lasso.{Lasso, letterIn, place, word}
-use Rattle.logic.specs.Truth.{Sequence, both, unaryB, binaryB, truth}
+use Rattle.logic.specs.Truth.{Sequence, Operation, each, shifted, fixpoint, unaryOperation, binaryOperation, across, applied, truth}
 use Rattle.logic.proofs.Lasso.Sequence.{Periodic, periodic-mod, sweep-shift}
 
 -- the number of samples, and the length of the loop
@@ -59,27 +59,18 @@ pub word-periodic : (r : Lasso) (i : ℕ) → r .start ≤ i → word r (i + per
 unfolding word
 word-periodic r i h = ap (λ k. getD (r .samples) k 0) (place-periodic (size r) (r .start) i (r .inside) h)
 
-unary-periodic : (s p L : ℕ) (o : Unary) (f : Sequence) → Periodic s p f → Periodic s p (unaryB L o f)
-unary-periodic s p L next f F i h = ap f (sym (suc-add i p)) ∙ F (suc i) (omega arith)
-unary-periodic s p L neg f F i h = ap not (F i h)
-unary-periodic s p L finally f F i h = sweep-shift s p f (λ k. true) false F (λ k a. refl) i L h
-unary-periodic s p L globally f F i h = sweep-shift s p (λ k. false) f true (λ k a. refl) F i L h
-
-binary-periodic : (s p L : ℕ) (o : Binary) (f g : Sequence) → Periodic s p f → Periodic s p g → Periodic s p (binaryB L o f g)
-binary-periodic s p L conj f g F G i h = ap₂ _&&_ (F i h) (G i h)
-binary-periodic s p L disj f g F G i h = ap₂ _||_ (F i h) (G i h)
-binary-periodic s p L until f g F G i h = sweep-shift s p g f false G F i L h
-binary-periodic s p L weak f g F G i h = sweep-shift s p g f true G F i L h
-binary-periodic s p L release f g F G i h = sweep-shift s p (both f g) g true (λ k a. ap₂ _&&_ (F k a) (G k a)) G i L h
-binary-periodic s p L strong f g F G i h = sweep-shift s p (both f g) g false (λ k a. ap₂ _&&_ (F k a) (G k a)) G i L h
-binary-periodic s p L implies f g F G i h = ap₂ _||_ (ap not (F i h)) (G i h)
+operation-periodic : (s p L : ℕ) (o : Operation) (f g : Sequence) → Periodic s p f → Periodic s p g → Periodic s p (applied L o f g)
+operation-periodic s p L (each t) f g F G i h = ap₂ t (F i h) (G i h)
+operation-periodic s p L shifted f g F G i h = ap g (sym (suc-add i p)) ∙ G (suc i) (omega arith)
+operation-periodic s p L (fixpoint goal keep c) f g F G i h =
+    sweep-shift s p (across goal f g) (across keep f g) c (λ k a. ap₂ goal (F k a) (G k a)) (λ k a. ap₂ keep (F k a) (G k a)) i L h
 
 pub periodic : (r : Lasso) (φ : Formula) (i : ℕ) → r .start ≤ i → truth r φ (i + period r) ≡ truth r φ i
 unfolding truth
 periodic r (const b) i h = refl
 periodic r (lit b n) i h = ap (λ v. Bool·beq b (letterIn v n)) (word-periodic r i h)
-periodic r (un o a) i h = unary-periodic (r .start) (period r) (size r) o (truth r a) (periodic r a) i h
-periodic r (bin o a b) i h = binary-periodic (r .start) (period r) (size r) o (truth r a) (truth r b) (periodic r a) (periodic r b) i h
+periodic r (un o a) i h = operation-periodic (r .start) (period r) (size r) (unaryOperation o) (truth r a) (truth r a) (periodic r a) (periodic r a) i h
+periodic r (bin o a b) i h = operation-periodic (r .start) (period r) (size r) (binaryOperation o) (truth r a) (truth r b) (periodic r a) (periodic r b) i h
 
 -- truth at a position is truth at the position of its sample
 pub truth-place : (r : Lasso) (φ : Formula) (i : ℕ) → truth r φ i ≡ truth r φ (place (size r) (r .start) i)

@@ -1,8 +1,8 @@
 -- The Bool function of specs/Truth.antt answers what the semantics says, so truth over a lasso is decided.
 -- U, M, W, R are one fixpoint, least or greatest: a M b is b U (a and b), and a R b is b W (a and b).
 use Prim.Native.Nat.{ℕ, suc, _+_, _≤_, _<_}
-use mathlib.Core.Path.{_≡_, refl, sym, subst}
-use mathlib.Core.Bool.{Bool, true, false}
+use mathlib.Core.Path.{_≡_, refl, sym, ap₂, subst}
+use mathlib.Core.Bool.{Bool, true, false, _&&_}
 use mathlib.Core.Logic.{_↔_, _⊎_, inl, inr, Iff·rfl, Iff·trans, Iff·symm, Iff·and}
 use native.Mathlib.Nat.{le-refl, eq-or-lt-of-le}
 use native.Mathlib.Omega.{arith}
@@ -10,7 +10,7 @@ use lib.Dec.{T, T-not, not-T}
 use Rattle.logic.specs.Formula.{Formula, Unary, Binary, const, lit, un, bin, next, neg, finally, globally, conj, disj, until, weak, release, strong, implies}
 use Rattle.logic.specs.Lasso.{Lasso, letterIn, place, word}
 use Rattle.logic.specs.Semantics.{Predicate, Until, Strong, Constant, unary, binary, Holds}
-use Rattle.logic.specs.Truth.{Sequence, sweep, both, unaryB, binaryB, truth}
+use Rattle.logic.specs.Truth.{Sequence, fixpoint, across, applied, unaryOperation, binaryOperation, truth}
 use Rattle.logic.proofs.Tests.{T-and, T-or, T-implies, T-beq, T-decided, ⊎-iff, →-iff}
 use Rattle.logic.proofs.Lasso.Sequence.{At, Periodic, Fixpoint, sweep-future}
 use Rattle.logic.proofs.Lasso.Period.{size, period, periodic, truth-place}
@@ -36,32 +36,35 @@ strong-until P Q i = (
 )
 
 module _ (s p L : ℕ) (positive : 0 < p) (whole : s + p ≡ L) where
-  sweep-holds : (g q : Sequence) (c : Bool) (G Q : Predicate) → Periodic s p g → Periodic s p q → ((k : ℕ) → At g k ↔ G k) → ((k : ℕ) → At q k ↔ Q k)
-      → (i : ℕ) → T (sweep g q c i L) ↔ Fixpoint G Q c i
-  sweep-holds g q c G Q πg πq hg hq i =
-      Iff·trans (sweep-future s p g q c πg πq i L positive (omega arith) (omega arith)) (fixpoint-iff c hg hq i)
-
   module _ (f g : Sequence) (P Q : Predicate) (πf : Periodic s p f) (πg : Periodic s p g)
       (hf : (k : ℕ) → At f k ↔ P k) (hg : (k : ℕ) → At g k ↔ Q k) where
-    both-periodic : Periodic s p (both f g)
-    both-periodic k a = cc (πf k a, πg k a)
+    -- a fixpoint, by what its goal and its keep say of the operands
+    fixpoint-holds : (goal keep : Bool → Bool → Bool) (c : Bool) (G K : Predicate)
+        → ((k : ℕ) → At (across goal f g) k ↔ G k) → ((k : ℕ) → At (across keep f g) k ↔ K k)
+        → (i : ℕ) → T (applied L (fixpoint goal keep c) f g i) ↔ Fixpoint G K c i
+    fixpoint-holds goal keep c G K hG hK i =
+        Iff·trans
+        (sweep-future s p (across goal f g) (across keep f g) c
+        (λ k a. ap₂ goal (πf k a) (πg k a)) (λ k a. ap₂ keep (πf k a) (πg k a)) i L positive (omega arith) (omega arith))
+        (fixpoint-iff c hG hK i)
 
-    both-holds : (k : ℕ) → At (both f g) k ↔ (P k × Q k)
-    both-holds k = Iff·trans (T-and (f k) (g k)) (Iff·and (hf k) (hg k))
+    both-hold : (k : ℕ) → T (f k && g k) ↔ (P k × Q k)
+    both-hold k = Iff·trans (T-and (f k) (g k)) (Iff·and (hf k) (hg k))
 
-    binary-holds : (o : Binary) (i : ℕ) → T (binaryB L o f g i) ↔ binary o P Q i
-    binary-holds conj i = both-holds i
+    binary-holds : (o : Binary) (i : ℕ) → T (applied L (binaryOperation o) f g i) ↔ binary o P Q i
+    binary-holds conj i = both-hold i
     binary-holds disj i = Iff·trans (T-or (f i) (g i)) (⊎-iff (hf i) (hg i))
-    binary-holds until i = Iff·trans (sweep-holds g f false Q P πg πf hg hf i) least
-    binary-holds weak i = Iff·trans (sweep-holds g f true Q P πg πf hg hf i) greatest
+    binary-holds until i = Iff·trans (fixpoint-holds (λ p q. q) (λ p q. p) false Q P hg hf i) least
+    binary-holds weak i = Iff·trans (fixpoint-holds (λ p q. q) (λ p q. p) true Q P hg hf i) greatest
     binary-holds release i =
-        Iff·trans (sweep-holds (both f g) g true (λ k. P k × Q k) Q both-periodic πg both-holds hg i)
+        Iff·trans (fixpoint-holds _&&_ (λ p q. q) true (λ k. P k × Q k) Q both-hold hg i)
         (Iff·trans greatest (⊎-iff Iff·rfl (strong-until P Q i)))
     binary-holds strong i =
-        Iff·trans (sweep-holds (both f g) g false (λ k. P k × Q k) Q both-periodic πg both-holds hg i) (Iff·trans least (strong-until P Q i))
+        Iff·trans (fixpoint-holds _&&_ (λ p q. q) false (λ k. P k × Q k) Q both-hold hg i) (Iff·trans least (strong-until P Q i))
     binary-holds implies i = Iff·trans (T-implies (f i) (g i)) (→-iff (hf i) (hg i))
 
-  unary-holds : (o : Unary) (f : Sequence) (P : Predicate) → Periodic s p f → ((k : ℕ) → At f k ↔ P k) → (i : ℕ) → T (unaryB L o f i) ↔ unary o P i
+  unary-holds : (o : Unary) (f : Sequence) (P : Predicate) → Periodic s p f → ((k : ℕ) → At f k ↔ P k)
+      → (i : ℕ) → T (applied L (unaryOperation o) f f i) ↔ unary o P i
   unary-holds next f P πf hf i = hf (suc i)
   unary-holds neg f P πf hf i = Iff·trans (T-not (f i), not-T (f i)) (→-iff (hf i) Iff·rfl)
   unary-holds finally f P πf hf i = binary-holds (λ k. true) f (Constant true) P (λ k a. refl) πf (λ k. Iff·rfl) hf until i

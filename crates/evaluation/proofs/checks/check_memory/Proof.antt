@@ -3,18 +3,9 @@ use borrow.Author.Needs.{needs}
 use borrow.Author.Tests.{ltb-false}
 use mathlib.Core.Path.{sym, _∙_}
 use Rattle.table.proofs.First.{first-passed, first-append-accepted, first-append-refused}
-use Rattle.table.specs.StepChecks.{recordingChecks, scratchChecks}
+use Rattle.evaluation.specs.Checks.{recordingChecks, scratchChecks}
 use Rattle.evaluation.proofs.checks.check_memory.Statement.{statement}
 use Rattle.evaluation.proofs.checks.check_memory.Tie as tie
-
-check-recording-requires : tie.Need-check-recording-requires
-check-recording-requires c κs = search needs
-
-enum-known-why : tie.Need-enum-known-why
-enum-known-why c = search needs
-
-enum-told : tie.Need-enum-told
-enum-told c = search needs
 
 check-scratch-requires : tie.Need-check-scratch-requires
 unfolding recordingChecks
@@ -37,9 +28,4 @@ pub check-memory-spec : {M : Type 1} → statement M
 check-memory-spec =
     tie.close
     (tie.spec
-    check-recording-requires
-    enum-known-why
-    enum-told
-    check-scratch-requires
-    returns
-    returns-2)
+    (search needs) (search needs) (search needs) check-scratch-requires returns returns-2)

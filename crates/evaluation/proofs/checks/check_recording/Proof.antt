@@ -1,6 +1,6 @@
 -- The conditions in their order, each by its test.
 use borrow.Author.Tests.{eq-eqb, ne-eqb, lt-ltb, le-ltb, le-leb, lt-leb}
-use Rattle.table.specs.StepChecks.{recordingChecks}
+use Rattle.evaluation.specs.Checks.{recordingChecks}
 use Rattle.evaluation.proofs.checks.check_recording.Statement.{statement}
 use Rattle.evaluation.proofs.checks.check_recording.Tie as tie
 

@@ -7,15 +7,6 @@ use Rattle.table.proofs.Accepted.{accepted-well-formed}
 use Rattle.evaluation.proofs.checks.check_row.Statement.{statement}
 use Rattle.evaluation.proofs.checks.check_row.Tie as tie
 
-check-requires : tie.Need-check-requires
-check-requires c κs = search needs
-
-enum-known-why : tie.Need-enum-known-why
-enum-known-why c = search needs
-
-enum-told : tie.Need-enum-told
-enum-told c = search needs
-
 check-memory-requires : tie.Need-check-memory-requires
 check-memory-requires c κs = accepted-well-formed false 16383 _ (sym (c .before .before .check .ensures) ∙ c .enum-told .given .1) .few
 
@@ -28,4 +19,4 @@ returns-2 c = c .check-memory .ensures ∙ sym (row-accepted _ _ _ _ (sym (c .be
 pub check-row-spec : {M : Type 1} → statement M
 check-row-spec =
     tie.close
-    (tie.spec check-requires enum-known-why enum-told check-memory-requires returns returns-2)
+    (tie.spec (search needs) (search needs) (search needs) check-memory-requires returns returns-2)

@@ -4,15 +4,12 @@ use borrow.Author.Needs.{needs}
 use borrow.Author.Tests.{lt-ltb, le-ltb}
 use native.Mathlib.Nat.{mul-le-mul}
 use native.Mathlib.Omega.{arith}
-use Rattle.table.specs.StepChecks.{rowWords, scratchChecks}
+use Rattle.rows.specs.Row.{rowWords}
+use Rattle.evaluation.specs.Checks.{scratchChecks}
 use Rattle.evaluation.proofs.checks.check_scratch.Statement.{statement}
 use Rattle.evaluation.proofs.checks.check_scratch.Tie as tie
 
-row-words-requires : tie.Need-row-words-requires
-row-words-requires c κs = search needs
-
 mul-if1 : tie.Need-mul-if1
-unfolding rowWords
 mul-if1 c = let e : c .row-words .result ≤ 64 = rw (c .row-words .ensures) (omega arith) in omega (arith, mul-le-mul (c .before .pre .0) e)
 
 returns : tie.Need-returns
@@ -24,4 +21,4 @@ unfolding scratchChecks
 returns-2 c = rw (← c .before .row-words .ensures) (simp (le-ltb _ _ (c .if1 .left)))
 
 pub check-scratch-spec : {M : Type 1} → statement M
-check-scratch-spec = tie.close (tie.spec row-words-requires mul-if1 returns returns-2)
+check-scratch-spec = tie.close (tie.spec (search needs) mul-if1 returns returns-2)

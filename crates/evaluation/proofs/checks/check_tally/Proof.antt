@@ -1,12 +1,9 @@
 -- A full tally is refused.
 use borrow.Author.Needs.{needs}
 use mathlib.Core.Path.{sym, _∙_}
-use Rattle.table.specs.StepChecks.{tallyChecks}
+use Rattle.evaluation.specs.Checks.{tallyChecks}
 use Rattle.evaluation.proofs.checks.check_tally.Statement.{statement}
 use Rattle.evaluation.proofs.checks.check_tally.Tie as tie
-
-full-requires : tie.Need-full-requires
-full-requires c κs = search needs
 
 returns : tie.Need-returns
 unfolding tallyChecks
@@ -17,4 +14,4 @@ unfolding tallyChecks
 returns-2 c = simp (sym (c .before .full .ensures) ∙ c .if1 .left)
 
 pub check-tally-spec : {M : Type 1} → statement M
-check-tally-spec = tie.close (tie.spec full-requires returns returns-2)
+check-tally-spec = tie.close (tie.spec (search needs) returns returns-2)

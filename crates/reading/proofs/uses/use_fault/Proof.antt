@@ -21,10 +21,10 @@ loop-holds : tie.Need-loop-holds Inv-loop μ-loop
 loop-holds c = (omega arith, refl)
 
 returns : tie.Need-returns Inv-loop μ-loop
-returns c = sym (c .before .before .before .loop .inv .1 ∙ use-step _ _ _ (c .before .before .loop-test .taken) ∙ rw (← c .before .before .before .before .pre .1 .marked (c .before .before .before .loop .n) (omega arith), c .if1 .taken))
+returns c = sym (c .before .before .before .loop .inv .1 ∙ use-step _ _ _ (c .before .before .loop-test .taken) ∙ rw (← c .before .before .before .before .pre .1 .at (c .before .before .before .loop .n) (omega arith), c .if1 .taken))
 
 loop-again : tie.Need-loop-again Inv-loop μ-loop
-loop-again c = (omega arith, c .before .before .before .loop .inv .1 ∙ use-step _ _ _ (c .before .before .loop-test .taken) ∙ rw (← c .before .before .before .before .pre .1 .marked (c .before .before .before .loop .n) (omega arith), c .if1 .left, add-one))
+loop-again c = (omega arith, c .before .before .before .loop .inv .1 ∙ use-step _ _ _ (c .before .before .loop-test .taken) ∙ rw (← c .before .before .before .before .pre .1 .at (c .before .before .before .loop .n) (omega arith), c .if1 .left, add-one))
 
 returns-2 : tie.Need-returns-2 Inv-loop μ-loop
 returns-2 c = sym (c .before .loop .inv .1 ∙ ap first (use-none _ _ _ (c .loop-test .left)))

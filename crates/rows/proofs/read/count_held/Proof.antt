@@ -41,14 +41,5 @@ pub count-held-spec : {M : Type 1} → statement M
 count-held-spec =
     tie.close
     (tie.spec
-    Inv-loop
-    μ-loop
-    loop-holds
-    (search needs)
-    (search needs)
-    cast-held
-    add-held
-    (search needs)
-    (search needs)
-    loop-again
-    returns)
+    Inv-loop μ-loop loop-holds (search needs) (search needs) cast-held add-held (search needs) (search needs)
+    loop-again returns)

@@ -6,7 +6,7 @@ use Rattle.rows.proofs.read.holds_at.Statement.{statement}
 use Rattle.rows.proofs.read.holds_at.Tie as tie
 
 returns : tie.Need-returns
-returns c L f e h = c .bit .ensures ∙ row-bit L f _ _ e h
+returns c L f e h = c .bit .ensures ∙ row-bit L f _ e _ h
 
 pub holds-at-spec : {M : Type 1} → statement M
 holds-at-spec = tie.close (tie.spec (search needs) (search needs) (search needs) returns)

@@ -53,16 +53,5 @@ pub letters-spec : {M : Type 1} → statement M
 letters-spec =
     tie.close
     (tie.spec
-    Inv-loop
-    μ-loop
-    loop-holds
-    (search needs)
-    mul-word
-    (search needs)
-    (search needs)
-    (search needs)
-    (search needs)
-    add-word
-    (search needs)
-    loop-again
-    returns)
+    Inv-loop μ-loop loop-holds (search needs) mul-word (search needs) (search needs) (search needs) (search needs)
+    add-word (search needs) loop-again returns)

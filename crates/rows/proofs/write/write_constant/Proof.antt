@@ -37,15 +37,5 @@ pub write-constant-spec : {M : Type 1} → statement M
 write-constant-spec =
     tie.close
     (tie.spec
-    Inv-loop
-    μ-loop
-    loop-holds
-    (search needs)
-    (search needs)
-    (search needs)
-    (search needs)
-    (search needs)
-    loop-less
-    loop-again
-    (search needs)
-    returns)
+    Inv-loop μ-loop loop-holds (search needs) (search needs) (search needs) (search needs) (search needs) loop-less
+    loop-again (search needs) returns)

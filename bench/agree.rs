@@ -1,0 +1,106 @@
+// Replies and slices of the library compared with those of the programs written for clarity, before anything is timed: on the rules of
+// source 000, and on tables that are damaged in one place or two, with slices that are too short among the rest.
+use crate::hashmap::Refused;
+use crate::rules::{word, Rule};
+use crate::shapes::{mixed, recording, Numbers, PLAIN, WRITTEN};
+use crate::{hashmap, library, moments};
+use std::collections::BTreeMap;
+use std::fmt::Debug;
+
+// How often each reply was seen: 0 for an accepted call, or the refusal's number.
+pub type Seen = BTreeMap<u32, usize>;
+
+fn same<T: PartialEq + Debug>(seen: &mut Seen, ours: Result<T, Refused>, theirs: Result<T, Refused>) {
+    assert_eq!(ours, theirs, "both sides reply alike");
+    *seen.entry(ours.err().map_or(0, |refused| refused.0)).or_default() += 1;
+}
+
+// A table with some words changed, repeated or left out.
+fn damaged(numbers: &mut Numbers, mut table: Vec<u32>) -> Vec<u32> {
+    for _ in 0..numbers.next(3) {
+        let i = numbers.next(table.len());
+        let (left, right) = (numbers.next(i + 3), numbers.next(i + 3));
+        match numbers.next(6) {
+            0 => table[i] = word(numbers.next(16) as u32, left, right),
+            1 => table[i] = word(table[i] >> 28, left, right),
+            2 => table[i] = word(3 + numbers.next(2) as u32, 0, numbers.next(40)),
+            3 => table[i] = table[numbers.next(i + 1)],
+            4 => table.truncate(i),
+            _ => table[i] &= 0xF000_3FFF,
+        }
+        if table.is_empty() {
+            break;
+        }
+    }
+    table
+}
+
+fn checks(seen: &mut Seen, numbers: &mut Numbers, most: usize) {
+    for kinds in [&PLAIN[..], &WRITTEN[..]] {
+        let n = 1 + numbers.next(most);
+        let table = damaged(numbers, mixed(n, kinds));
+        for (plain, limit) in [(true, 130), (true, 16383), (false, 64), (false, 16383)] {
+            same(seen, library::check(&table, plain, limit), hashmap::check(&table, plain, limit));
+        }
+        let room = (table.len() + numbers.next(3)).saturating_sub(1);
+        slices(seen, room, |s| library::classify(&table, s), |s| hashmap::classify(&table, s));
+    }
+}
+
+// Slices of so many words on both sides, and what a step does to them.
+fn slices<W: From<u8> + Copy + PartialEq, T: PartialEq + Debug>(
+    seen: &mut Seen, room: usize, ours: impl Fn(&mut [W]) -> Result<T, Refused>, theirs: impl Fn(&mut [W]) -> Result<T, Refused>,
+) {
+    let (mut one, mut other) = (vec![W::from(7); room], vec![W::from(7); room]);
+    same(seen, ours(&mut one), theirs(&mut other));
+    assert!(one == other, "both sides leave the slice alike");
+}
+
+fn forms(seen: &mut Seen, numbers: &mut Numbers, written: &[u32], plain: &[u32]) {
+    for room in [0, 1 + numbers.next(40), 130] {
+        slices(seen, room, |s| library::plain_form(written, s), |s| hashmap::plain_form(written, s));
+    }
+    if !library::FORMS {
+        return;
+    }
+    for room in [0, 1 + numbers.next(900), 16383, 20000] {
+        slices(seen, room, |s| library::normal_form(plain, s), |s| hashmap::normal_form(plain, s));
+        let short = [0, 12, 130][numbers.next(3)];
+        let (mut one, mut other) = (vec![7; short], vec![7; short]);
+        let (mut form, mut form2) = (vec![7; room], vec![7; room]);
+        same(seen, library::rule_form(written, &mut one, &mut form), hashmap::rule_form(written, &mut other, &mut form2));
+        assert!((one, form) == (other, form2), "both sides leave both slices alike");
+    }
+}
+
+fn judges(seen: &mut Seen, numbers: &mut Numbers) {
+    let n = 1 + numbers.next(80);
+    let table = damaged(numbers, mixed(n, &WRITTEN));
+    let count = [0, 1, 63, 64, 65, 300, 4096, 4097][numbers.next(8)];
+    let samples: Vec<u32> = recording(count).into_iter().map(|sample| sample ^ numbers.next(4) as u32).collect();
+    let start = numbers.next(count + 1);
+    let room = table.len() * ((count + 63) / 64);
+    for room in [room / 2, room, room + 3] {
+        let (mut one, mut other) = (vec![7; room], vec![7; room]);
+        let theirs = moments::judge(&table, &samples, start, &mut other);
+        same(seen, library::judge(&table, &samples, start, &mut one), theirs);
+        assert!(one == other, "both sides leave the scratch alike");
+    }
+}
+
+pub fn all(rules: &[Rule]) -> Seen {
+    let (mut seen, mut numbers) = (Seen::new(), Numbers(3));
+    for rule in rules {
+        let mut plain = vec![0; 130];
+        let n = hashmap::plain_form(&rule.table, &mut plain).expect("a plain form");
+        forms(&mut seen, &mut numbers, &rule.table, &plain[..n]);
+    }
+    for turn in 0..1500 {
+        checks(&mut seen, &mut numbers, if turn % 50 == 0 { 16400 } else { 140 });
+        judges(&mut seen, &mut numbers);
+        let (n, m) = (1 + numbers.next(if turn % 20 == 0 { 70 } else { 20 }), 1 + numbers.next(if turn % 20 == 0 { 140 } else { 20 }));
+        let (written, plain) = (damaged(&mut numbers, mixed(n, &WRITTEN)), damaged(&mut numbers, mixed(m, &PLAIN)));
+        forms(&mut seen, &mut numbers, &written, &plain);
+    }
+    seen
+}

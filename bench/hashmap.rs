@@ -1,0 +1,353 @@
+// The steps of document 01 written straight from its definitions, for clarity, with the standard hash map: what the proved library
+// is compared with, and timed beside.
+use std::collections::HashMap;
+
+// A refusal's number and place.
+pub type Refused = (u32, usize);
+
+const FALSE: u32 = 1;
+const TRUE: u32 = 2;
+const AND: u32 = 5;
+const OR: u32 = 6;
+const X: u32 = 7;
+const U: u32 = 8;
+const W: u32 = 9;
+const R: u32 = 10;
+const M: u32 = 11;
+const NOT: u32 = 12;
+const F: u32 = 13;
+const G: u32 = 14;
+const IMPLIES: u32 = 15;
+
+fn kind(w: u32) -> u32 {
+    w >> 28
+}
+
+fn left(w: u32) -> usize {
+    (w >> 14 & 0x3FFF) as usize
+}
+
+fn right(w: u32) -> usize {
+    (w & 0x3FFF) as usize
+}
+
+// Checks 1 to 10.
+pub fn check(table: &[u32], plain: bool, limit: usize) -> Result<(), Refused> {
+    if table.is_empty() {
+        return Err((1, 0));
+    }
+    if limit < table.len() {
+        return Err((2, 0));
+    }
+    let mut numbers = HashMap::new();
+    let mut used = vec![false; table.len() + 1];
+    for (n, &w) in (1..).zip(table) {
+        check_word(w, n, plain)?;
+        if numbers.insert(w, n).is_some() {
+            return Err((9, n));
+        }
+        match kind(w) {
+            1..=4 => {}
+            X | NOT | F | G => used[right(w)] = true,
+            _ => {
+                used[left(w)] = true;
+                used[right(w)] = true;
+            }
+        }
+    }
+    match (1..table.len()).find(|&n| !used[n]) {
+        Some(n) => Err((10, n)),
+        None => Ok(()),
+    }
+}
+
+// Checks 3 to 8 of word number n.
+fn check_word(w: u32, n: usize, plain: bool) -> Result<(), Refused> {
+    let blank = |field| if field == 0 { Ok(()) } else { Err((8, n)) };
+    let operand = |field| match field {
+        0 => Err((5, n)),
+        _ if n <= field => Err((6, n)),
+        _ => Ok(()),
+    };
+    match kind(w) {
+        0 => Err((3, n)),
+        12..=15 if plain => Err((4, n)),
+        1..=2 => blank(left(w)).and(blank(right(w))),
+        3..=4 => blank(left(w)).and(if (1..=32).contains(&right(w)) { Ok(()) } else { Err((7, n)) }),
+        X | NOT | F | G => blank(left(w)).and(operand(right(w))),
+        _ => operand(left(w)).and(operand(right(w))),
+    }
+}
+
+// The classes by their bits, as Definition 5 reads: which classes each contains, and which operators it is closed under besides and, or.
+const CLASSES: [(&[usize], &[u32]); 7] = [
+    (&[], &[]),
+    (&[0], &[X, U, M]),
+    (&[0], &[X, W, R]),
+    (&[1, 2], &[]),
+    (&[2], &[X, U, M]),
+    (&[1], &[X, W, R]),
+    (&[4, 5], &[]),
+];
+
+pub fn classify(table: &[u32], bytes: &mut [u8]) -> Result<(), Refused> {
+    check(table, true, 16383)?;
+    if bytes.len() < table.len() {
+        bytes.fill(0);
+        return Err((12, 0));
+    }
+    for (i, &w) in table.iter().enumerate() {
+        let operands = match kind(w) {
+            1..=4 => 0,
+            X => bytes[right(w) - 1],
+            _ => bytes[left(w) - 1] & bytes[right(w) - 1],
+        };
+        let mut byte = if kind(w) <= 4 { 1 } else { 0 };
+        for (bit, (contained, operators)) in CLASSES.iter().enumerate() {
+            let closed = matches!(kind(w), AND | OR) || operators.contains(&kind(w));
+            if closed && operands >> bit & 1 == 1 || contained.iter().any(|class| byte >> class & 1 == 1) {
+                byte |= 1 << bit;
+            }
+        }
+        bytes[i] = byte;
+    }
+    Ok(())
+}
+
+// Words listed as first needed, an identical word used again, in so much room.
+struct Numbering {
+    words: Vec<u32>,
+    numbers: HashMap<u32, u32>,
+    room: usize,
+}
+
+impl Numbering {
+    fn new(room: usize) -> Numbering {
+        Numbering { words: Vec::new(), numbers: HashMap::new(), room: room.min(16383) }
+    }
+
+    fn put(&mut self, kind: u32, left: u32, right: u32) -> Result<u32, Refused> {
+        let w = kind << 28 | left << 14 | right;
+        if let Some(&n) = self.numbers.get(&w) {
+            return Ok(n);
+        }
+        if self.words.len() == self.room {
+            return Err((12, 0));
+        }
+        self.words.push(w);
+        let n = self.words.len() as u32;
+        self.numbers.insert(w, n);
+        Ok(n)
+    }
+}
+
+// The form's words at the front of the result, or a result of zeros where they don't fit.
+fn hand_over(form: Result<Vec<u32>, Refused>, result: &mut [u32]) -> Result<usize, Refused> {
+    match form {
+        Ok(words) => {
+            result[..words.len()].copy_from_slice(&words);
+            Ok(words.len())
+        }
+        Err(refused) => {
+            result.fill(0);
+            Err(refused)
+        }
+    }
+}
+
+pub fn plain_form(table: &[u32], result: &mut [u32]) -> Result<usize, Refused> {
+    check(table, false, 64)?;
+    let mut plain = PlainForm { table, out: Numbering::new(result.len()), memo: vec![[0; 2]; table.len() + 1] };
+    let form = plain.form(table.len(), false);
+    hand_over(form.map(|_| plain.out.words), result)
+}
+
+struct PlainForm<'a> {
+    table: &'a [u32],
+    out: Numbering,
+    memo: Vec<[u32; 2]>,
+}
+
+impl PlainForm<'_> {
+    // The number of the plain form of word j, or of its denial.
+    fn form(&mut self, j: usize, denied: bool) -> Result<u32, Refused> {
+        let known = self.memo[j][denied as usize];
+        if known != 0 {
+            return Ok(known);
+        }
+        let w = self.table[j - 1];
+        let becomes = |kind| if denied { dual(kind) } else { kind };
+        let n = match kind(w) {
+            k @ 1..=4 => self.out.put(becomes(k), 0, right(w) as u32)?,
+            X => {
+                let b = self.form(right(w), denied)?;
+                self.out.put(X, 0, b)?
+            }
+            NOT => self.form(right(w), !denied)?,
+            F => self.over_constant(becomes(TRUE), becomes(U), right(w), denied)?,
+            G => self.over_constant(becomes(FALSE), becomes(R), right(w), denied)?,
+            k => {
+                let premise = k == IMPLIES;
+                let a = self.form(left(w), denied != premise)?;
+                let b = self.form(right(w), denied)?;
+                self.out.put(becomes(if premise { OR } else { k }), a, b)?
+            }
+        };
+        self.memo[j][denied as usize] = n;
+        Ok(n)
+    }
+
+    fn over_constant(&mut self, constant: u32, kind: u32, j: usize, denied: bool) -> Result<u32, Refused> {
+        let a = self.out.put(constant, 0, 0)?;
+        let b = self.form(j, denied)?;
+        self.out.put(kind, a, b)
+    }
+}
+
+// What denial makes of a plain kind.
+fn dual(kind: u32) -> u32 {
+    match kind {
+        FALSE => TRUE,
+        TRUE => FALSE,
+        3 => 4,
+        4 => 3,
+        AND => OR,
+        OR => AND,
+        U => R,
+        R => U,
+        W => M,
+        M => W,
+        _ => kind,
+    }
+}
+
+pub fn normal_form(table: &[u32], result: &mut [u32]) -> Result<usize, Refused> {
+    check(table, true, 130)?;
+    let until_like: Vec<usize> = (1..=table.len()).filter(|j| (U..=M).contains(&kind(table[j - 1]))).collect();
+    if let Some(&ninth) = until_like.get(8) {
+        return Err((11, ninth));
+    }
+    let mut weight = vec![0; table.len() + 1];
+    for (bit, &j) in until_like.iter().enumerate() {
+        weight[j] = 1 << bit;
+    }
+    let mut normal = NormalForm { table, until_like, weight, out: Numbering::new(result.len()), choice: 0, memo: Vec::new() };
+    let form = normal.parts();
+    hand_over(form.map(|_| normal.out.words), result)
+}
+
+// The whole way, from a written table.
+pub fn rule_form(table: &[u32], plain: &mut [u32], result: &mut [u32]) -> Result<usize, Refused> {
+    let n = plain_form(table, plain)?;
+    normal_form(&plain[..n], result)
+}
+
+#[derive(Clone, Copy)]
+enum Rewriting {
+    Steady,
+    Recurring,
+    Opening,
+}
+use Rewriting::*;
+
+struct NormalForm<'a> {
+    table: &'a [u32],
+    until_like: Vec<usize>,
+    weight: Vec<u32>, // of each word's bit; 0 where it has none
+    out: Numbering,
+    choice: u32,
+    memo: Vec<[u32; 3]>, // of this choice's rewritings
+}
+
+impl NormalForm<'_> {
+    fn parts(&mut self) -> Result<u32, Refused> {
+        let mut choices: Vec<u32> = (0..1 << self.until_like.len()).collect();
+        choices.sort_by_key(|choice| choice.count_ones());
+        let mut n = self.part(0)?;
+        for &choice in &choices[1..] {
+            let part = self.part(choice)?;
+            n = self.out.put(OR, n, part)?;
+        }
+        Ok(n)
+    }
+
+    fn part(&mut self, choice: u32) -> Result<u32, Refused> {
+        self.choice = choice;
+        self.memo = vec![[0; 3]; self.table.len() + 1];
+        let mut n = self.form(Opening, self.table.len())?;
+        for j in self.chosen([U, M]) {
+            let g = self.out.put(FALSE, 0, 0)?;
+            let f = self.out.put(TRUE, 0, 0)?;
+            let x = self.form(Recurring, j)?;
+            let fx = self.out.put(U, f, x)?;
+            let gfx = self.out.put(R, g, fx)?;
+            n = self.out.put(AND, n, gfx)?;
+        }
+        for j in self.chosen([W, R]) {
+            let f = self.out.put(TRUE, 0, 0)?;
+            let g = self.out.put(FALSE, 0, 0)?;
+            let x = self.form(Steady, j)?;
+            let gx = self.out.put(R, g, x)?;
+            let fgx = self.out.put(U, f, gx)?;
+            n = self.out.put(AND, n, fgx)?;
+        }
+        Ok(n)
+    }
+
+    fn chosen(&self, kinds: [u32; 2]) -> Vec<usize> {
+        let member = |&j: &usize| self.choice & self.weight[j] != 0 && kinds.contains(&kind(self.table[j - 1]));
+        self.until_like.iter().copied().filter(member).collect()
+    }
+
+    // The number of a rewriting of word j.
+    fn form(&mut self, m: Rewriting, j: usize) -> Result<u32, Refused> {
+        let known = self.memo[j][m as usize];
+        if known != 0 {
+            return Ok(known);
+        }
+        let w = self.table[j - 1];
+        let chosen = self.choice & self.weight[j] != 0;
+        let n = match (m, kind(w)) {
+            (_, k @ 1..=4) => self.out.put(k, 0, right(w) as u32)?,
+            (_, X) => {
+                let b = self.form(m, right(w))?;
+                self.out.put(X, 0, b)?
+            }
+            (Steady, U | M) if !chosen => self.out.put(FALSE, 0, 0)?,
+            (Steady, U) => self.both(m, W, w)?,
+            (Steady, M) => self.both(m, R, w)?,
+            (Recurring, W | R) if chosen => self.out.put(TRUE, 0, 0)?,
+            (Recurring, W) => self.both(m, U, w)?,
+            (Recurring, R) => self.both(m, M, w)?,
+            (Opening, W) => {
+                let a = self.form(m, left(w))?;
+                let b = self.form(m, right(w))?;
+                let or_always = self.or_always(b, left(w))?;
+                self.out.put(U, a, or_always)?
+            }
+            (Opening, R) => {
+                let a = self.form(m, left(w))?;
+                let or_always = self.or_always(a, right(w))?;
+                let b = self.form(m, right(w))?;
+                self.out.put(M, or_always, b)?
+            }
+            (_, k) => self.both(m, k, w)?,
+        };
+        self.memo[j][m as usize] = n;
+        Ok(n)
+    }
+
+    fn both(&mut self, m: Rewriting, kind: u32, w: u32) -> Result<u32, Refused> {
+        let a = self.form(m, left(w))?;
+        let b = self.form(m, right(w))?;
+        self.out.put(kind, a, b)
+    }
+
+    // `a or G x`, with x the steady form of word j.
+    fn or_always(&mut self, a: u32, j: usize) -> Result<u32, Refused> {
+        let never = self.out.put(FALSE, 0, 0)?;
+        let x = self.form(Steady, j)?;
+        let always = self.out.put(R, never, x)?;
+        self.out.put(OR, a, always)
+    }
+}

@@ -1,0 +1,89 @@
+// The proved library, called through its C names. A refusal is its number and place.
+use crate::hashmap::Refused;
+
+extern "C" {
+    fn showrule_check(table: *const u32, words: usize, plain: bool, limit: usize, place: *mut usize) -> u32;
+    fn showrule_classify(table: *const u32, words: usize, bytes: *mut u8, len: usize, place: *mut usize) -> u32;
+    fn showrule_plain(table: *const u32, words: usize, result: *mut u32, room: usize, form: *mut usize, place: *mut usize) -> u32;
+    fn showrule_judge(
+        table: *const u32, words: usize, samples: *const u32, count: usize, start: usize, scratch: *mut u64, len: usize,
+        judged: *mut u32, held: *mut u32, holds: *mut bool, moments: *mut usize, failing: *mut usize, place: *mut usize,
+    ) -> u32;
+}
+
+#[cfg(forms)]
+extern "C" {
+    fn showrule_normal(table: *const u32, words: usize, result: *mut u32, room: usize, form: *mut usize, place: *mut usize) -> u32;
+    fn showrule_form(
+        table: *const u32, words: usize, plain: *mut u32, plain_room: usize, result: *mut u32, room: usize,
+        form: *mut usize, place: *mut usize,
+    ) -> u32;
+}
+
+// Whether the library has C names for the normal form and the whole way.
+pub const FORMS: bool = cfg!(forms);
+
+fn reply<T>(number: u32, place: usize, answer: T) -> Result<T, Refused> {
+    if number == 0 { Ok(answer) } else { Err((number, place)) }
+}
+
+pub fn check(table: &[u32], plain: bool, limit: usize) -> Result<(), Refused> {
+    let mut place = 0;
+    let number = unsafe { showrule_check(table.as_ptr(), table.len(), plain, limit, &mut place) };
+    reply(number, place, ())
+}
+
+pub fn classify(table: &[u32], bytes: &mut [u8]) -> Result<(), Refused> {
+    let mut place = 0;
+    let number = unsafe { showrule_classify(table.as_ptr(), table.len(), bytes.as_mut_ptr(), bytes.len(), &mut place) };
+    reply(number, place, ())
+}
+
+pub fn plain_form(table: &[u32], result: &mut [u32]) -> Result<usize, Refused> {
+    let (mut form, mut place) = (0, 0);
+    let number = unsafe { showrule_plain(table.as_ptr(), table.len(), result.as_mut_ptr(), result.len(), &mut form, &mut place) };
+    reply(number, place, form)
+}
+
+#[cfg(forms)]
+pub fn normal_form(table: &[u32], result: &mut [u32]) -> Result<usize, Refused> {
+    let (mut form, mut place) = (0, 0);
+    let number = unsafe { showrule_normal(table.as_ptr(), table.len(), result.as_mut_ptr(), result.len(), &mut form, &mut place) };
+    reply(number, place, form)
+}
+
+#[cfg(forms)]
+pub fn rule_form(table: &[u32], plain: &mut [u32], result: &mut [u32]) -> Result<usize, Refused> {
+    let (mut form, mut place) = (0, 0);
+    let number = unsafe {
+        showrule_form(
+            table.as_ptr(), table.len(), plain.as_mut_ptr(), plain.len(), result.as_mut_ptr(), result.len(),
+            &mut form, &mut place,
+        )
+    };
+    reply(number, place, form)
+}
+
+#[cfg(not(forms))]
+pub fn normal_form(_: &[u32], _: &mut [u32]) -> Result<usize, Refused> {
+    unreachable!("the library has no C name for the normal form")
+}
+
+#[cfg(not(forms))]
+pub fn rule_form(_: &[u32], _: &mut [u32], _: &mut [u32]) -> Result<usize, Refused> {
+    unreachable!("the library has no C name for the whole way")
+}
+
+// Whether the rule holds at moment 0, at how many moments, and the first failing moment. The tally goes in as zeros.
+pub type Answer = (bool, usize, usize);
+
+pub fn judge(table: &[u32], samples: &[u32], start: usize, scratch: &mut [u64]) -> Result<Answer, Refused> {
+    let (mut judged, mut held, mut holds, mut moments, mut failing, mut place) = (0, 0, false, 0, 0, 0);
+    let number = unsafe {
+        showrule_judge(
+            table.as_ptr(), table.len(), samples.as_ptr(), samples.len(), start, scratch.as_mut_ptr(), scratch.len(),
+            &mut judged, &mut held, &mut holds, &mut moments, &mut failing, &mut place,
+        )
+    };
+    reply(number, place, (holds, moments, failing))
+}

@@ -1,0 +1,102 @@
+// Tables and recordings that the figures are measured on, the same in every run.
+use crate::rules;
+use crate::rules::word;
+
+// The operators of plain and of written tables.
+pub const PLAIN: [u32; 7] = [5, 6, 7, 8, 9, 10, 11];
+pub const WRITTEN: [u32; 11] = [5, 6, 7, 8, 9, 10, 11, 12, 13, 14, 15];
+
+// Numbers that look random.
+pub struct Numbers(pub u64);
+
+impl Numbers {
+    pub fn next(&mut self, below: usize) -> usize {
+        self.0 = self.0.wrapping_mul(6364136223846793005).wrapping_add(1442695040888963407);
+        (self.0 >> 33) as usize % below
+    }
+}
+
+// A table of n words of the given kinds over letter 1, in which each word uses the one before it, and another.
+pub fn mixed(n: usize, kinds: &[u32]) -> Vec<u32> {
+    over_letters(1, n, kinds)
+}
+
+// The same over more letters, which are used from the last one down.
+pub fn over_letters(letters: usize, n: usize, kinds: &[u32]) -> Vec<u32> {
+    let mut numbers = Numbers(1);
+    let mut table: Vec<u32> = (1..=letters).map(|letter| word(3, 0, letter)).collect();
+    for letter in (1..letters).rev() {
+        table.push(word(5 + (letter % 2) as u32, table.len(), letter));
+    }
+    while table.len() < n {
+        let last = table.len();
+        let other = 1 + numbers.next(last);
+        let kind = kinds[numbers.next(kinds.len())];
+        table.push(match kind {
+            7 | 12..=14 => word(kind, 0, last),
+            _ if numbers.next(2) == 0 => word(kind, last, other),
+            _ => word(kind, other, last),
+        });
+    }
+    table
+}
+
+// Every letter at random.
+pub fn noise(n: usize) -> Vec<u32> {
+    let mut numbers = Numbers(4);
+    (0..n).map(|_| (numbers.next(1 << 16) << 16 | numbers.next(1 << 16)) as u32).collect()
+}
+
+// Letter 1 mostly on, letter 2 seldom.
+pub fn recording(n: usize) -> Vec<u32> {
+    let mut numbers = Numbers(2);
+    (0..n).map(|_| (numbers.next(8) != 0) as u32 | ((numbers.next(64) == 0) as u32) << 1).collect()
+}
+
+// Plain rules of eight until-like words, in rising size: nested, side by side, and chains of all operators.
+pub fn eight_until_like() -> Vec<(&'static str, Vec<u32>)> {
+    let pairs = ["(p1 U p2)", "(p3 W p4)", "(p5 R p6)", "(p7 M p8)", "(p9 U p10)", "(p11 W p12)", "(p13 R p14)", "(p15 M p16)"];
+    vec![
+        ("nested", nested(8)),
+        ("side by side", rules::table(&pairs.join(" & "))),
+        ("mixed chain", chain(48)),
+        ("mixed chain", chain(93)),
+    ]
+}
+
+// So many until-like words, each with the one before it as its left operand.
+pub fn nested(fixpoints: usize) -> Vec<u32> {
+    let over = |rule, i| format!("({rule}) {} p{}", ["U", "W", "R", "M"][i % 4], i + 1);
+    rules::table(&(1..=fixpoints).fold("p1".to_string(), over))
+}
+
+// A chain of n words in which every until-like word stands over and, or and X words.
+fn chain(n: usize) -> Vec<u32> {
+    let mut table = vec![word(3, 0, 1), word(3, 0, 2), word(4, 0, 3), word(5, 1, 2), word(6, 3, 4)];
+    let every = (n - 5) / 8;
+    let mut fixpoints = 0;
+    while table.len() < n {
+        let last = table.len();
+        let at = last - 5;
+        table.push(if at % every == every - 1 && fixpoints < 8 {
+            fixpoints += 1;
+            word(8 + fixpoints as u32 % 4, last - 1, last)
+        } else if at % 3 == 0 {
+            word(7, 0, last)
+        } else {
+            word(5 + (at % 2) as u32, last, 1 + at % 3)
+        });
+    }
+    table
+}
+
+// A plain table of n words, each over the one before it, so that a step that goes down by calls goes as deep as it can: X words, and
+// from the top on so many W words.
+pub fn deep(n: usize, fixpoints: usize) -> Vec<u32> {
+    let mut table = vec![word(3, 0, 1)];
+    while table.len() < n {
+        let last = table.len();
+        table.push(if n - last <= fixpoints { word(9, last, last) } else { word(7, 0, last) });
+    }
+    table
+}

@@ -1,0 +1,127 @@
+// The runner's input: words, and the tables and recordings that a case is about.
+
+// A case in words, in this order: the step (1 check, 2 class, 3 plain form, 4 normal form, 5 whole way, 6 judge, 7 row call); how many words
+// of a chain the table starts with, and how many are listed after it; the number of a word that is replaced (0: none), and the word;
+// the rooms of the lent slices; whether plain tables only, and the limit, of the check; the number of samples, the loop start, the tally, and
+// the seed of the samples (0: they are listed). The listed words follow, then the listed samples.
+pub struct Case {
+    pub step: u32,
+    pub chain: usize,
+    pub listed: usize,
+    pub replaced: usize,
+    pub word: u32,
+    pub room: usize,
+    pub second: usize,
+    pub plain: bool,
+    pub limit: usize,
+    pub samples: usize,
+    pub start: usize,
+    pub judged: u32,
+    pub held: u32,
+    pub seed: u64,
+}
+
+pub fn case_of(w: [u32; 14]) -> Case {
+    Case {
+        step: w[0],
+        chain: w[1] as usize,
+        listed: w[2] as usize,
+        replaced: w[3] as usize,
+        word: w[4],
+        room: w[5] as usize,
+        second: w[6] as usize,
+        plain: w[7] == 1,
+        limit: w[8] as usize,
+        samples: w[9] as usize,
+        start: w[10] as usize,
+        judged: w[11],
+        held: w[12],
+        seed: w[13] as u64,
+    }
+}
+
+fn decode(bytes: &[u8; 65600], out: &mut [u32]) {
+    let all: &[u8] = bytes;
+    listing::decode(all, out);
+}
+
+// Words of the input, until the slice is full; whether there were so many. Of a slice over 16,400 words nothing is read.
+pub fn words(out: &mut [u32]) -> bool {
+    let mut bytes = [0u8; 65600];
+    let n = out.len();
+    if n == 0 {
+        return true;
+    }
+    if 16400 < n {
+        return false;
+    }
+    let got = io::read_full(0, &mut bytes[0..4 * n]);
+    decode(&bytes, out);
+    got == 4 * n
+}
+
+// Word k, counted from 0, of a chain of n words: letter 1, then X of the word before.
+fn chain_word(k: usize, n: usize) -> u32 {
+    if n <= k {
+        return 0;
+    }
+    if k == 0 {
+        return 0x30000001;
+    }
+    0x70000000 + (k % 16384) as u32
+}
+
+fn chain(t: &mut [u32], n: usize) {
+    let mut k: usize = 0;
+    while k < t.len() {
+        let w = chain_word(k, n);
+        t[k] = w;
+        k += 1;
+    }
+}
+
+// Words of the input from number `from` up to `to`, counted from 0; whether there were so many.
+fn listed(t: &mut [u32], from: usize, to: usize) -> bool {
+    if t.len() < to {
+        return false;
+    }
+    if to < from {
+        return false;
+    }
+    words(&mut t[from..to])
+}
+
+// Word number `at` replaced, unless at is 0.
+fn replace(t: &mut [u32], at: usize, word: u32) {
+    if 0 < at {
+        if at <= t.len() {
+            t[at - 1] = word;
+        }
+    }
+}
+
+// The table of a case: a chain, then listed words, one of them replaced; whether there were so many.
+pub fn table(t: &mut [u32], from: usize, to: usize, at: usize, word: u32) -> bool {
+    chain(t, from);
+    let there = listed(t, from, to);
+    replace(t, at, word);
+    there
+}
+
+// Samples that look random: letter 1 holds mostly, letter 2 seldom, letter 3 half the time.
+pub fn record(samples: &mut [u32; 4100], seed: u64) {
+    let mut x = seed % 2147483648;
+    let mut i: usize = 0;
+    while i < 4100 {
+        x = (x % 2147483648 * 1103515245 + 12345) % 2147483648;
+        let mut v = 0u32;
+        if x / 65536 % 8 != 0 {
+            v = 1;
+        }
+        if x / 524288 % 64 == 0 {
+            v = v % 2 + 2;
+        }
+        samples[i] = v % 4 + (x / 256 % 2 * 4) as u32;
+        i += 1;
+    }
+}

@@ -1,0 +1,15 @@
+-- A slot of a draft: the kind in bits 32 to 35, the left field in the 16 bits below them, the right field in the low 16.
+-- An operand is the slot, counted from 0, of an earlier word of the draft; a letter stands in the right field.
+use Prim.Native.Nat.{ℕ, _+_, _*_, _/_, _%_, _^_}
+
+unfoldable pub kind : ℕ → ℕ
+kind s = s / 2 ^ 32
+
+unfoldable pub left : ℕ → ℕ
+left s = s / 2 ^ 16 % 2 ^ 16
+
+unfoldable pub right : ℕ → ℕ
+right s = s % 2 ^ 16
+
+unfoldable pub pack : ℕ → ℕ → ℕ → ℕ
+pack k l r = k * 2 ^ 32 + l * 2 ^ 16 + r

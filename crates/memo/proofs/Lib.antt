@@ -1,2 +1,0 @@
--- The laws of forms that are built once.
-pub mod Laws

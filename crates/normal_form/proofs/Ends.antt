@@ -1,0 +1,81 @@
+-- How the normal-form step ends: a refused table, an until-like word past the limit, a form that does not fit, and a form.
+use Prim.Native.Nat.{ℕ, _+_, _*_, _≤_, _<_, min}
+use native.Mathlib.Omega.{arith}
+use mathlib.Core.Path.{_≡_, sym, ap, _∙_}
+use mathlib.Core.Bool.{true, false}
+use mathlib.Core.List.{List}
+use lib.ListN.{length, replicate}
+use Rattle.table.specs.declared.refusal.Refusal.{Refusal}
+use Rattle.table.specs.declared.refusal.Refusal.the-variants.{TooManyFixpoints, ResultTooShort}
+use Rattle.table.specs.declared.refusal.Outcome.{Outcome}
+use Rattle.table.specs.declared.refusal.Outcome.the-variants as outcome
+use Rattle.table.specs.declared.answer.Answer.{Answer}
+use Rattle.table.specs.declared.answer.Answer.the-variants.{Made, Refused}
+use Rattle.table.specs.declared.limits.Limits.{Limits}
+use Rattle.table.specs.Refusals.{first}
+use Rattle.table.specs.Limits.{desk, plainLimit}
+use Rattle.table.specs.Checks.{tableChecks, checked}
+use Rattle.table.specs.StepChecks.{fixpointChecks}
+use Rattle.table.specs.Steps.{fixpoints}
+use Rattle.table.specs.Frame.{normalStep, answerOf, resultOf}
+use Rattle.table.proofs.First.{first-append-accepted, first-append-refused}
+use Rattle.table.proofs.Frame.{refused-answer, refused-result, too-long-answer, too-long-result, made-answer, made-result, normal-early}
+use Rattle.table.proofs.Accepted.{accepted-well-formed}
+use Rattle.normal_form.specs.Weights.{Past}
+use Rattle.normal_form.specs.Forms.{Accepted, Formed}
+use Rattle.normal_form.proofs.Weighing.{fixpoints-few}
+
+-- the checks with the limits that the code asks for
+pub table-at-desk : {x : Limits} {o p : Outcome} (t : List ℕ) → x ≡ desk → o ≡ checked true (min (2 * x .written + 2) 16383) t → o ≡ p → checked true (plainLimit desk) t ≡ p
+table-at-desk t e f g = sym (ap (λ (x : Limits). checked true (min (2 * x .written + 2) 16383) t) e) ∙ sym f ∙ g
+
+pub past-at-desk : {x : Limits} {t : List ℕ} {r : ℕ} → x ≡ desk → Past t (x .fixpoints) r → Past t (desk .fixpoints) r
+past-at-desk e p = rw e at p
+
+-- the reply and the slice
+pub record Ends (l : Limits) (t result : List ℕ) (r : Answer) (e : List ℕ) : Type 0 where
+  pub reply : r ≡ answerOf (normalStep l) t (length result)
+  pub slice : e ≡ resultOf (normalStep l) t result
+
+module _ (l : Limits) (t result : List ℕ) where
+  refused : (r : Refusal) → first (normalStep l .checks t) ≡ outcome.Refused r → Ends l t result (Refused r) result
+  refused r e = record {
+    reply = sym (refused-answer (normalStep l) t result r e);
+    slice = sym (refused-result (normalStep l) t result (normal-early l) r e);
+  }
+
+  pub table-refused : (r : Refusal) → checked true (plainLimit l) t ≡ outcome.Refused r → Ends l t result (Refused r) result
+  unfolding checked
+  table-refused r e = refused r (first-append-refused (tableChecks true (plainLimit l) t) (fixpointChecks (l .fixpoints) 1 t) r e)
+
+  module _ (a : checked true (plainLimit l) t ≡ outcome.Accepted) {n : ℕ} (p : Past t (l .fixpoints) n) where
+    both : first (normalStep l .checks t) ≡ first (fixpointChecks (l .fixpoints) 1 t)
+    unfolding checked
+    both = first-append-accepted (tableChecks true (plainLimit l) t) (fixpointChecks (l .fixpoints) 1 t) a
+
+    pub past-refused : 0 < n → Ends l t result (Refused (TooManyFixpoints n)) result
+    past-refused h = refused (TooManyFixpoints n) (both ∙ p .many h)
+
+    module _ (z : n ≤ 0) where
+      pub all-passed : plainLimit l < 131 → l .fixpoints < 9 → Accepted t
+      all-passed h k =
+          let f = accepted-well-formed true (plainLimit l) t a in
+          let few = fixpoints-few (l .fixpoints) f (p .few (omega arith)) in
+          record { limit = plainLimit l; accepted = a; short = h; few = omega (arith, few); drafted = omega (arith, few, f .few) }
+
+      module _ {e : List ℕ} {r : ℕ} (f : Formed t result e r) where
+        ok : first (normalStep l .checks t) ≡ outcome.Accepted
+        ok = both ∙ p .few (omega arith)
+
+        pub too-long : r ≡ 0 → length e ≡ length result → Ends l t result (Refused ResultTooShort) (replicate (length e) 0)
+        too-long y k = record {
+          reply = sym (too-long-answer (normalStep l) t result ok (f .none y));
+          slice = rw k (sym (too-long-result (normalStep l) t result ok (f .none y)));
+        }
+
+        pub made : (r ≡ 0 → ⊥) → Ends l t result (Made r) e
+        made y =
+            let h : 0 < r = omega (arith, y) in record {
+              reply = ap Made (f .count h) ∙ sym (made-answer (normalStep l) t result ok (f .fitting h));
+              slice = f .front h ∙ sym (made-result (normalStep l) t result ok (f .fitting h));
+            }

@@ -1,0 +1,42 @@
+-- The form as it is written to a slice, and what it is asked with.
+use Prim.Native.Nat.{ℕ, _+_, _*_, _^_, _≤_, _<_}
+use mathlib.Core.Path.{_≡_}
+use mathlib.Core.Bool.{true, false}
+use mathlib.Core.List.{List, _++_}
+use lib.ListN.{length, drop}
+use Rattle.table.specs.declared.refusal.Outcome.the-variants as outcome
+use Rattle.table.specs.Checks.{checked}
+use Rattle.table.specs.Numbering.{room, fits}
+use Rattle.table.specs.Steps.{fixpoints, normalTable}
+use Rattle.normal_form.specs.Weights.{Weighed}
+use Rattle.normal_form.specs.Filled.{draftSize}
+
+-- the most words of a form of n words of which k are until-like
+abbrev pub mostWords : ℕ → ℕ → ℕ
+mostWords n k = 2 ^ k * (5 * n + 3 * k + 1) + 2
+
+-- an accepted plain table whose form can be made
+pub record Accepted (t : List ℕ) : Type 0 where
+  pub limit : ℕ
+  pub accepted : checked true limit t ≡ outcome.Accepted
+  pub short : limit < 131
+  pub few : length (fixpoints t) < 32
+  pub drafted : draftSize t ≤ 1024
+
+-- with the weights of its until-like words
+pub record Weighted (t weights : List ℕ) (bits : ℕ) : Type 0 where
+  pub table : Accepted t
+  pub weighed : Weighed t weights (length t)
+  pub bits-are : bits ≡ length (fixpoints t)
+
+-- its drafts have at most so many slots, and its slice counts for at most so many words
+pub record Sized (t : List ℕ) (slots : ℕ) (out : List ℕ) (words : ℕ) : Type 0 where
+  pub few-slots : draftSize t ≤ slots
+  pub few-words : room (length out) ≤ words
+
+-- the form stands at the front of the slice, and r is the number of its words; 0: it does not fit
+pub record Formed (t out e : List ℕ) (r : ℕ) : Type 0 where
+  pub none : r ≡ 0 → fits (length (normalTable t)) (length out) ≡ false
+  pub fitting : 0 < r → fits (length (normalTable t)) (length out) ≡ true
+  pub count : 0 < r → r ≡ length (normalTable t)
+  pub front : 0 < r → e ≡ normalTable t ++ drop (length (normalTable t)) out

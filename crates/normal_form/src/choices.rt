@@ -1,0 +1,104 @@
+// The parts of all choices, fewer chosen words first and equal counts by lower number, joined by or.
+use crate::kinds;
+use crate::part;
+use draft::put;
+use table::word;
+ghost use Prim.Native.Nat.{suc, _<_};
+ghost use mathlib.Core.Path.{_≡_};
+ghost use Rattle.logic.specs.NormalForm.{normalForm};
+ghost use Rattle.table.specs.Numbering.{build};
+ghost use Rattle.table.specs.Table.{rule};
+ghost use Rattle.table.specs.Steps as steps;
+ghost use Rattle.draft.specs.State.{state, written, Placing};
+ghost use Rattle.normal_form.specs.Growing.{disjoined, choicesBelow, Ready, Formable, Grown};
+
+// The number of `n or p`, with p the part of the choice, if it has so many chosen words, and n otherwise.
+pub fn with_part(
+    table: &[u32],
+    weights: &[u32],
+    choice: u32,
+    ones: u32,
+    draft: &mut [u64],
+    out: &mut [u32],
+    index: &mut [u16],
+    n: usize,
+) -> usize
+    requires { ⌜ Ready (now table) (now weights) (now draft) (state (now out) (now index)) ⌝ }
+    requires { ⌜ n < 16384 ⌝ }
+    ensures { λ r. ⌜ Grown
+        (disjoined (now (table .entry)) (choicesBelow choice ones))
+        (disjoined (now (table .entry)) (choicesBelow (suc choice) ones))
+        (state (now (out .entry)) (now (index .entry)))
+        (state (now (out .exit)) (now (index .exit)))
+        n
+        r ⌝ }
+{
+    if u32::count_ones(choice) != ones {
+        return n;
+    }
+    if n == 0 {
+        return 0;
+    }
+    let p = part::part(table, weights, choice, draft, out, index);
+    if p == 0 {
+        return 0;
+    }
+    put::put(out, index, word::pack(kinds::OR, n, p))
+}
+
+// The choices below `limit` with so many chosen words.
+pub fn with_ones(
+    table: &[u32],
+    weights: &[u32],
+    limit: u32,
+    ones: u32,
+    draft: &mut [u64],
+    out: &mut [u32],
+    index: &mut [u16],
+    first: usize,
+) -> usize
+    requires { ⌜ Ready (now table) (now weights) (now draft) (state (now out) (now index)) ⌝ }
+    requires { ⌜ first < 16384 ⌝ }
+    ensures { λ r. ⌜ Grown
+        (λ φ. φ)
+        (disjoined (now (table .entry)) (choicesBelow limit ones))
+        (state (now (out .entry)) (now (index .entry)))
+        (state (now (out .exit)) (now (index .exit)))
+        first
+        r ⌝ }
+{
+    let mut n = first;
+    let mut choice = 0;
+    while choice < limit {
+        n = with_part(table, weights, choice, ones, draft, out, index, n);
+        choice += 1;
+    }
+    n
+}
+
+// All choices among the until-like words, of which there are as many as bits.
+pub fn form(
+    table: &[u32],
+    weights: &[u32],
+    bits: u32,
+    draft: &mut [u64],
+    out: &mut [u32],
+    index: &mut [u16],
+) -> usize
+    requires { ⌜ Formable (now table) (now weights) bits (now draft) (state (now out) (now index)) ⌝ }
+    ensures { λ r. ⌜ Placing
+        (state (now (out .entry)) (now (index .entry)))
+        (state (now (out .exit)) (now (index .exit)))
+        (build
+        (written (state (now (out .entry)) (now (index .entry))))
+        (normalForm (steps.fixpoints (now (table .entry))) (rule (now (table .entry)))))
+        r ⌝ }
+{
+    let mut n = part::part(table, weights, 0, draft, out, index);
+    let mut ones = 1;
+    while ones <= bits {
+        n = with_ones(table, weights, 1 << bits, ones, draft, out, index, n);
+        ones += 1;
+    }
+    n
+}

@@ -1,0 +1,3 @@
+-- The whole way from a written table: what it answers and leaves, and demand 3 as one claim.
+pub mod Whole
+pub mod Claim

@@ -1,0 +1,160 @@
+-- The three ways in which a step that makes words ends, said once for every step: refused before 12, too long, made.
+use Prim.Native.Nat.{ℕ, zero, suc, _≤_}
+use mathlib.Core.Path.{_≡_, refl, ap, sym, _∙_}
+use mathlib.Core.Logic.{_↔_}
+use mathlib.Core.Bool.{Bool, true, false, not, cond}
+use mathlib.Core.List.{List, [], _∷_, _++_}
+use native.Mathlib.Omega.{arith}
+use lib.ListN.{length, take, drop, replicate}
+use lib.Dec.{eqb, leb}
+use lib.Seq.{take-append-seam}
+use borrow.Author.Tests.{ne-eqb, leb-true, not-false}
+use Rattle.table.specs.declared.refusal.Refusal.{Refusal}
+use Rattle.table.specs.declared.refusal.Refusal.the-variants.{ResultTooShort}
+use Rattle.table.specs.declared.refusal.Outcome.{Outcome}
+use Rattle.table.specs.declared.refusal.Outcome.the-variants as outcome
+use Rattle.table.specs.declared.answer.Answer.{Answer}
+use Rattle.table.specs.declared.answer.Answer.the-variants.{Made, Refused}
+use Rattle.table.specs.declared.limits.Limits.{Limits}
+use Rattle.table.specs.Refusals.{Check, first, numberOf}
+use Rattle.table.specs.Limits.{plainLimit}
+use Rattle.table.specs.Checks.{tableChecks, checked}
+use Rattle.table.specs.Numbering.{room, fits}
+use Rattle.table.specs.StepChecks.{isFixpointWord, fixpointChecks, resultChecks}
+use Rattle.table.specs.Frame.{Step, outcomeOf, answerBy, answerOf, resultBy, resultOf, answerNumber, classStep, plainStep, normalStep}
+use Rattle.table.proofs.First.{first-append-accepted, first-append-refused, first-append-both, AllRefusals, first-refusal}
+use Rattle.table.proofs.Accepted.{table-refusal}
+
+-- no check before the last refuses for length
+pub record Early (s : Step) : Type 0 where
+  pub early : (t : List ℕ) (r : Refusal) → first (s .checks t) ≡ outcome.Refused r → numberOf r ≡ 12 → ⊥
+
+module _ (s : Step) (t slice : List ℕ) where
+  pub refused : (r : Refusal) → first (s .checks t) ≡ outcome.Refused r → outcomeOf s t (length slice) ≡ outcome.Refused r
+  unfolding outcomeOf
+  refused r e = first-append-refused (s .checks t) (resultChecks (length (s .makes t)) (length slice)) r e
+
+  pub refused-answer : (r : Refusal) → first (s .checks t) ≡ outcome.Refused r → answerOf s t (length slice) ≡ Refused r
+  unfolding answerOf
+  refused-answer r e = ap (λ (o : Outcome). answerBy o (length (s .makes t))) (refused r e)
+
+  pub refused-result : Early s → (r : Refusal) → first (s .checks t) ≡ outcome.Refused r → resultOf s t slice ≡ slice
+  unfolding resultOf
+  refused-result y r e = ap (λ (o : Outcome). resultBy o (s .makes t) slice) (refused r e) ∙ rw (ne-eqb (numberOf r) 12 (y .early t r e))
+
+  module _ (ok : first (s .checks t) ≡ outcome.Accepted) where
+    last : outcomeOf s t (length slice) ≡ first (resultChecks (length (s .makes t)) (length slice))
+    unfolding outcomeOf
+    last = first-append-accepted (s .checks t) (resultChecks (length (s .makes t)) (length slice)) ok
+
+    module _ (f : fits (length (s .makes t)) (length slice) ≡ false) where
+      pub too-long : outcomeOf s t (length slice) ≡ outcome.Refused ResultTooShort
+      unfolding resultChecks
+      too-long = last ∙ rw f
+
+      pub too-long-answer : answerOf s t (length slice) ≡ Refused ResultTooShort
+      unfolding answerOf
+      too-long-answer = ap (λ (o : Outcome). answerBy o (length (s .makes t))) too-long
+
+      pub too-long-result : resultOf s t slice ≡ replicate (length slice) 0
+      unfolding resultOf
+      too-long-result = ap (λ (o : Outcome). resultBy o (s .makes t) slice) too-long
+
+    module _ (f : fits (length (s .makes t)) (length slice) ≡ true) where
+      pub made : outcomeOf s t (length slice) ≡ outcome.Accepted
+      unfolding resultChecks
+      made = last ∙ rw f
+
+      pub made-answer : answerOf s t (length slice) ≡ Made (length (s .makes t))
+      unfolding answerOf
+      made-answer = ap (λ (o : Outcome). answerBy o (length (s .makes t))) made
+
+      pub made-result : resultOf s t slice ≡ s .makes t ++ drop (length (s .makes t)) slice
+      unfolding resultOf
+      made-result = ap (λ (o : Outcome). resultBy o (s .makes t) slice) made
+
+-- what an answer tells: the words that were made fit, and stand at the front of the slice
+pub record Answered (s : Step) (t slice : List ℕ) (n : ℕ) : Type 0 where
+  pub accepted : first (s .checks t) ≡ outcome.Accepted
+  pub long : n ≡ length (s .makes t)
+  pub fitting : fits n (length slice) ≡ true
+  pub front : take n (resultOf s t slice) ≡ s .makes t
+
+-- the last check passed, or refused
+fit-passed : (b : Bool) → first (record { fails = not b; refusal = ResultTooShort } ∷ []) ≡ outcome.Accepted → b ≡ true
+fit-passed true e = refl
+fit-passed false e = cc
+
+fit-refused : (b : Bool) → first (record { fails = not b; refusal = ResultTooShort } ∷ []) ≡ outcome.Refused ResultTooShort → b ≡ false
+fit-refused true e = cc
+fit-refused false e = refl
+
+module _ (s : Step) (t slice : List ℕ) where
+  pub answered : (n : ℕ) → answerOf s t (length slice) ≡ Made n → Answered s t slice n
+  unfolding answerOf outcomeOf resultChecks
+  answered n a = by-outcome (outcomeOf s t (length slice)) refl a
+    where
+      by-outcome : (o : Outcome) → outcomeOf s t (length slice) ≡ o → answerBy o (length (s .makes t)) ≡ Made n → Answered s t slice n
+      by-outcome outcome.Accepted e a =
+          let l : n ≡ length (s .makes t) = cc in
+          let b = first-append-both (s .checks t) _ .0 e in
+          let f = fit-passed (fits (length (s .makes t)) (length slice)) (b .1) in
+          record {
+            accepted = b .0;
+            long = l;
+            fitting = rw l f;
+            front = rw (l, made-result s t slice (b .0) f) (take-append-seam (s .makes t) (drop (length (s .makes t)) slice));
+          }
+      by-outcome (outcome.Refused r) e a = absurd (let z : _≡_ {A = ℕ} 0 1 = cc in omega arith)
+
+-- to refuse for length is to answer 12: exactly when every check before passes and the words do not fit the slice
+module _ (s : Step) (y : Early s) (t slice : List ℕ) where
+  not-fitting : answerNumber (answerOf s t (length slice)) ≡ 12 → (o : Outcome) → first (s .checks t) ≡ o
+      → (first (s .checks t) ≡ outcome.Accepted) × (fits (length (s .makes t)) (length slice) ≡ false)
+  not-fitting a (outcome.Refused r) e = absurd (y .early t r e (sym (ap answerNumber (refused-answer s t slice r e)) ∙ a))
+  not-fitting a outcome.Accepted e = (e, by-fit (fits (length (s .makes t)) (length slice)) refl)
+    where
+      by-fit : (b : Bool) → fits (length (s .makes t)) (length slice) ≡ b → b ≡ false
+      by-fit false f = refl
+      by-fit true f = absurd (let z : _≡_ {A = ℕ} 0 12 = sym (ap answerNumber (made-answer s t slice e f)) ∙ a in omega arith)
+
+  pub refused-for-length : (answerNumber (answerOf s t (length slice)) ≡ 12)
+      ↔ ((first (s .checks t) ≡ outcome.Accepted) × (fits (length (s .makes t)) (length slice) ≡ false))
+  refused-for-length = (λ a. not-fitting a (first (s .checks t)) refl, λ p. ap answerNumber (too-long-answer s t slice (p .0) (p .1)))
+
+-- the steps of document 01 look at the length last
+pub class-early : Early classStep
+unfolding checked
+class-early = record { early = λ t r e n. omega (arith, table-refusal true 16383 t r e) }
+
+pub plain-early : (l : Limits) → Early (plainStep l)
+unfolding checked
+plain-early l = record { early = λ t r e n. omega (arith, table-refusal false (l .written) t r e) }
+
+-- the checks on until-like words refuse by 11 alone
+fixpoint-refusals : (limit n : ℕ) (ws : List ℕ) → AllRefusals (λ r. numberOf r ≡ 11) (fixpointChecks limit n ws)
+unfolding fixpointChecks
+fixpoint-refusals limit n [] = tt
+fixpoint-refusals zero n (w ∷ ws) = (refl, fixpoint-refusals zero (suc n) ws)
+fixpoint-refusals (suc limit) n (w ∷ ws) = go (isFixpointWord w) (fixpoint-refusals limit (suc n) ws) (fixpoint-refusals (suc limit) (suc n) ws)
+  where
+    go : (b : Bool) → AllRefusals (λ r. numberOf r ≡ 11) (fixpointChecks limit (suc n) ws) → AllRefusals (λ r. numberOf r ≡ 11) (fixpointChecks (suc limit) (suc n) ws)
+        → AllRefusals (λ r. numberOf r ≡ 11) (cond b (fixpointChecks limit (suc n) ws) (fixpointChecks (suc limit) (suc n) ws))
+    go true p q = p
+    go false p q = q
+
+pub fixpoint-refusal : (limit : ℕ) (t : List ℕ) (r : Refusal) → first (fixpointChecks limit 1 t) ≡ outcome.Refused r → numberOf r ≡ 11
+fixpoint-refusal limit t r e = first-refusal (λ x. numberOf x ≡ 11) (fixpointChecks limit 1 t) r (fixpoint-refusals limit 1 t) e
+
+pub normal-early : (l : Limits) → Early (normalStep l)
+unfolding checked
+normal-early l = record { early = λ t r e n. by-table t r n (first (tableChecks true (plainLimit l) t)) refl e }
+  where
+    by-table : (t : List ℕ) (r : Refusal) → numberOf r ≡ 12 → (o : Outcome) → first (tableChecks true (plainLimit l) t) ≡ o
+        → first (tableChecks true (plainLimit l) t ++ fixpointChecks (l .fixpoints) 1 t) ≡ outcome.Refused r → ⊥
+    by-table t r n outcome.Accepted k e =
+        omega (arith, fixpoint-refusal (l .fixpoints) t r (sym (first-append-accepted (tableChecks true (plainLimit l) t) _ k) ∙ e))
+    by-table t r n (outcome.Refused q) k e =
+        let a = first-append-refused (tableChecks true (plainLimit l) t) (fixpointChecks (l .fixpoints) 1 t) q k in
+        let same : r ≡ q = cc in
+        omega (arith, table-refusal true (plainLimit l) t q k, ap numberOf same)

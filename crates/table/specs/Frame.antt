@@ -1,0 +1,63 @@
+-- A step that makes words of a table: check, make, reply.
+use Prim.Native.Nat.{ℕ}
+use mathlib.Core.Bool.{true, false, cond}
+use mathlib.Core.List.{List, _++_}
+use lib.ListN.{length, drop, replicate}
+use lib.Dec.{eqb}
+use Rattle.table.specs.declared.refusal.Report.{Report}
+use Rattle.table.specs.declared.refusal.Outcome.{Outcome}
+use Rattle.table.specs.declared.refusal.Outcome.the-variants as outcome
+use Rattle.table.specs.declared.answer.Answer.{Answer}
+use Rattle.table.specs.declared.answer.Answer.the-variants.{Made, Refused}
+use Rattle.table.specs.declared.limits.Limits.{Limits}
+use Rattle.table.specs.Refusals.{Check, first, reportOf, outcomeReport, numberOf}
+use Rattle.table.specs.Limits.{plainLimit, mostWords}
+use Rattle.table.specs.Checks.{tableChecks}
+use Rattle.table.specs.StepChecks.{fixpointChecks, resultChecks}
+use Rattle.table.specs.Steps.{classBytes, plainTable, normalTable}
+
+-- what a step checks of a table before 12, and what it makes of one
+pub record Step : Type 0 where
+  pub checks : List ℕ → List Check
+  pub makes : List ℕ → List ℕ
+
+-- the steps of document 01; the class step makes bytes, the others words
+abbrev pub classStep : Step
+classStep = record { checks = tableChecks true mostWords; makes = classBytes }
+
+abbrev pub plainStep : Limits → Step
+plainStep l = record { checks = tableChecks false (l .written); makes = plainTable }
+
+abbrev pub normalStep : Limits → Step
+normalStep l = record { checks = λ t. tableChecks true (plainLimit l) t ++ fixpointChecks (l .fixpoints) 1 t; makes = normalTable }
+
+-- 12 is looked at last, for the slice that the words are to be written to
+unfoldable pub outcomeOf : Step → List ℕ → ℕ → Outcome
+outcomeOf s t slice = first (s .checks t ++ resultChecks (length (s .makes t)) slice)
+
+abbrev pub answerBy : Outcome → ℕ → Answer
+answerBy outcome.Accepted n = Made n
+answerBy (outcome.Refused r) n = Refused r
+
+unfoldable pub answerOf : Step → List ℕ → ℕ → Answer
+answerOf s t slice = answerBy (outcomeOf s t slice) (length (s .makes t))
+
+-- accepted: the words at the front, and what stood past them; refused by 12: every word 0; refused otherwise: no change
+abbrev pub resultBy : Outcome → List ℕ → List ℕ → List ℕ
+resultBy outcome.Accepted made slice = made ++ drop (length made) slice
+resultBy (outcome.Refused r) made slice = cond (eqb (numberOf r) 12) (replicate (length slice) 0) slice
+
+unfoldable pub resultOf : Step → List ℕ → List ℕ → List ℕ
+resultOf s t slice = resultBy (outcomeOf s t (length slice)) (s .makes t) slice
+
+-- an answer by document 01's numbers: the refusal's number and place, both 0 where words were made; and how many were
+abbrev pub answerReport : Answer → Report
+answerReport (Made n) = outcomeReport outcome.Accepted
+answerReport (Refused r) = reportOf r
+
+abbrev pub answerWords : Answer → ℕ
+answerWords (Made n) = n
+answerWords (Refused r) = 0
+
+abbrev pub answerNumber : Answer → ℕ
+answerNumber a = answerReport a .0

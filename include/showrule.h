@@ -1,0 +1,107 @@
+/* Show rules for desks: the C names of the proved static library (rt staticlib boundary writes target/staticlib/libboundary.a).
+ *
+ * A rule is a table of 32-bit words numbered from 1; document 01 says what they mean. Every function takes any numbers and any words,
+ * and answers 0 when the call is accepted, or the number of the refusal, the first of document 01's check table that applies. The
+ * place is then the number of the faulty word for 3 to 11, and 0 otherwise; accepted, it is 0. No function allocates, keeps a pointer,
+ * reads or writes a file, or ends the program. They may run on several threads at once, on memory that no other call writes.
+ *
+ * What a caller keeps to; nothing checks it:
+ *   - A slice is a pointer and then its length, in elements, not in bytes. It is memory of the caller, aligned for its element, that
+ *     may be read, and where the pointer is to non-const also written, for that length. Of length 0 it is the empty slice, whatever
+ *     the pointer, the null pointer too.
+ *   - A pointer to a single number (place, form_words, ..) is never null. What the number held before a call matters only for
+ *     judged and held.
+ *   - A slice or number that is written lies apart from every other slice and number of the same call.
+ *   - A bool is 0 or 1.
+ *   - A call needs stack. 512 KB have been enough for the longest and the deepest rules (rust/showrule/tests/stack.rs tries them).
+ */
+#ifndef SHOWRULE_H
+#define SHOWRULE_H
+
+#include <stdbool.h>
+#include <stddef.h>
+#include <stdint.h>
+
+#ifdef __cplusplus
+extern "C" {
+#endif
+
+/* The numbers that a call answers. */
+enum {
+    SHOWRULE_ACCEPTED = 0,
+    SHOWRULE_NO_WORD = 1,              /* the table has no word */
+    SHOWRULE_TOO_MANY_WORDS = 2,       /* it has more than the step takes */
+    SHOWRULE_KIND_ZERO = 3,            /* a word of kind 0 */
+    SHOWRULE_NOT_PLAIN = 4,            /* kind 12 to 15 in a step that takes plain tables only */
+    SHOWRULE_OPERAND_ZERO = 5,         /* an operand field is 0 */
+    SHOWRULE_OPERAND_NOT_EARLIER = 6,  /* an operand is not an earlier word */
+    SHOWRULE_LETTER_OUT_OF_RANGE = 7,  /* a letter is not 1 to 32 */
+    SHOWRULE_FIELD_NOT_ZERO = 8,       /* a field that must be 0 isn't */
+    SHOWRULE_REPEATED = 9,             /* a word is the same as an earlier one */
+    SHOWRULE_UNUSED = 10,              /* a word that is not the last is used by none */
+    SHOWRULE_TOO_MANY_UNTIL_LIKE = 11, /* over 8 until-like words (kinds 8 to 11); the place is the ninth */
+    SHOWRULE_RESULT_TOO_SHORT = 12,    /* the result is longer than the slice that is lent for it */
+    SHOWRULE_NO_SAMPLE = 13,           /* the recording has no sample */
+    SHOWRULE_TOO_MANY_SAMPLES = 14,    /* it has over 4,096 */
+    SHOWRULE_LOOP_START_OUTSIDE = 15,  /* the loop start is not below the number of samples */
+    SHOWRULE_SCRATCH_TOO_SHORT = 16,   /* the scratch is shorter than the rows */
+    SHOWRULE_TALLY_FULL = 17           /* judged is 4,294,967,295, or held exceeds judged */
+};
+
+/* The most of each that a call takes. */
+enum {
+    SHOWRULE_MOST_WORDS = 16383,      /* words of a table, for check, class, judge and row */
+    SHOWRULE_MOST_WRITTEN = 64,       /* words of a written table, for plain and form */
+    SHOWRULE_MOST_PLAIN = 130,        /* words of a plain table, for normal; no plain form is longer */
+    SHOWRULE_MOST_UNTIL_LIKE = 8,     /* until-like words of a plain table, for normal and form */
+    SHOWRULE_MOST_SAMPLES = 4096      /* samples of a recording */
+};
+
+/* The 64-bit words of scratch that so many words and samples need. */
+#define SHOWRULE_SCRATCH_WORDS(words, samples) ((size_t)(words) * (((size_t)(samples) + 63) / 64))
+
+/* Checks 1 to 10 of a table: a plain one (kinds 1 to 11) where plain is true, else a written one, of at most limit words. A limit over
+ * 16,383 counts for 16,383. It writes nothing but the place. */
+uint32_t showrule_check(const uint32_t *table, size_t words, bool plain, size_t limit, size_t *place);
+
+/* The class byte of each word of a plain table of at most 16,383 words, checks 1 to 10 and 12. Accepted, the first `words` bytes are the
+ * class bytes in the order of the words, and later bytes stay. Refused by 12, every byte of the slice is 0; refused otherwise, it is
+ * as it was. Bit 0 is class zero, 1 Sigma-1, 2 Pi-1, 3 Delta-1, 4 Sigma-2, 5 Pi-2, 6 Delta-2; bit 7 is 0. */
+uint32_t showrule_classify(const uint32_t *table, size_t words, uint8_t *bytes, size_t room, size_t *place);
+
+/* The plain form of a written table of at most 64 words, checks 1 to 10 and 12. Accepted, *form_words is its length, its words are the
+ * first of the result, and later words stay; 130 words are always enough. Refused by 12, every word of the result is 0; refused
+ * otherwise, it is as it was. Refused, *form_words is 0. */
+uint32_t showrule_plain(const uint32_t *table, size_t words, uint32_t *result, size_t room, size_t *form_words, size_t *place);
+
+/* The normal form of a plain table of at most 130 words, checks 1 to 12. Accepted, *form_words is its length, its words are the first of
+ * the result, and later words stay. Refused by 12, every word of the result is 0; refused otherwise, it is as it was. Refused,
+ * *form_words is 0. A result counts for 16,383 words at most. */
+uint32_t showrule_normal(const uint32_t *table, size_t words, uint32_t *result, size_t room, size_t *form_words, size_t *place);
+
+/* The whole way, from a written table to its normal form: showrule_plain into the slice plain, then showrule_normal on exactly the words
+ * that it answered. plain is left as showrule_plain leaves it. Where the plain form is refused, the number and the place are those of
+ * that refusal, and the result is as it was; else number, place, *form_words and the result are as showrule_normal leaves them, and the
+ * place of 11 is the number of a word of the plain form. A 12 is of the slice in which every word is 0. */
+uint32_t showrule_form(const uint32_t *table, size_t words, uint32_t *plain, size_t plain_room, uint32_t *result, size_t room,
+                       size_t *form_words, size_t *place);
+
+/* Judges a rule, a table of at most 16,383 words, written or plain, over a recording of `count` samples: after the last comes the one at
+ * the loop start again, for ever. Checks 1 to 10 and 13 to 17. Accepted, *holds says whether the rule holds at moment 0, *moments at how
+ * many of the recorded moments, *failing is the first of them at which it fails (count if none); *judged is one more, and so is *held if
+ * it held at moment 0. The scratch then starts with a row for each word, in their order, each of (count + 63) / 64 words of 64 bits:
+ * moment i is bit i % 64 of the row's word i / 64, unused high bits are 0; later words stay. Refused, *holds is false, *moments and
+ * *failing are 0, and *judged, *held and the scratch are as they were. */
+uint32_t showrule_judge(const uint32_t *table, size_t words, const uint32_t *samples, size_t count, size_t start, uint64_t *scratch,
+                        size_t room, uint32_t *judged, uint32_t *held, bool *holds, size_t *moments, size_t *failing, size_t *place);
+
+/* The row call: the rows of showrule_judge, with no tally and so without check 17. Accepted, the rule's own row is the part of the scratch
+ * of *row_words words from scratch[*from] on. Refused, both are 0, and the scratch is as it was. */
+uint32_t showrule_row(const uint32_t *table, size_t words, const uint32_t *samples, size_t count, size_t start, uint64_t *scratch,
+                      size_t room, size_t *from, size_t *row_words, size_t *place);
+
+#ifdef __cplusplus
+}
+#endif
+
+#endif

@@ -1,0 +1,255 @@
+//! Random inputs: valid tables in any word order, tables damaged by a bit or a word, too long and too short ones, and rooms at and
+//! around what the results need.
+use crate::input::Input;
+use crate::library::Reference;
+use crate::numbers::Numbers;
+use reference::word::{Word, MOST_WORDS};
+use std::collections::HashSet;
+
+pub fn input(numbers: &mut Numbers) -> Input {
+    let mut table = table(numbers);
+    if numbers.below(3) == 0 {
+        damage(numbers, &mut table);
+    }
+    with_table(numbers, table)
+}
+
+/// An input with this table: a recording, a tally and rooms for it.
+pub fn with_table(numbers: &mut Numbers, table: Vec<u32>) -> Input {
+    let reference = Reference::default();
+    let plain = reference.plain_form(&table).unwrap_or_default();
+    let normal = reference.normal_form(&table).map_or(0, |form| form.len());
+    let plain_bits: Vec<u32> = plain.iter().map(|w| w.bits()).collect();
+    let form = reference.normal_form(&plain_bits).map_or(0, |form| form.len());
+    let samples = samples(numbers, table.len());
+    let rows = table.len() * samples.len().div_ceil(64);
+    let (judged, held) = tally(numbers);
+    Input {
+        plain_only: numbers.once_in(2),
+        limit: if numbers.once_in(3) {
+            room(numbers, table.len())
+        } else {
+            numbers.one_of(&[0, 64, 130, 16_383, 16_384, usize::MAX])
+        },
+        bytes: room(numbers, table.len()),
+        plain: room(numbers, plain.len()),
+        normal: room(numbers, normal),
+        form_plain: if numbers.once_in(6) { room(numbers, plain.len()) } else { 130 },
+        form: room(numbers, form),
+        start: start(numbers, samples.len()),
+        samples,
+        scratch: room(numbers, rows),
+        judged,
+        held,
+        table,
+    }
+}
+
+/// A room for something so long: mostly enough, often exactly, and sometimes too little.
+fn room(numbers: &mut Numbers, long: usize) -> usize {
+    match numbers.below(10) {
+        0..=2 => long,
+        3 => long.saturating_sub(1),
+        4 => numbers.below(long + 1),
+        5 if numbers.once_in(20) => 0,
+        6 if numbers.once_in(400) => 16_384 + numbers.below(9),
+        _ => long + numbers.below(9),
+    }
+}
+
+/// A written or a plain table that passes the checks, unless it is over a limit.
+fn table(numbers: &mut Numbers) -> Vec<u32> {
+    let size = match numbers.below(1000) {
+        0..=599 => numbers.between(1, 12),
+        600..=899 => numbers.between(8, 40),
+        900..=979 => numbers.between(40, 70),
+        980..=997 => numbers.between(60, 140),
+        998 => numbers.between(140, 1500),
+        _ => numbers.one_of(&[16_382, 16_383, 16_384, 16_390]),
+    };
+    let plain = numbers.once_in(3);
+    let until_like = numbers.one_of(&[0, 1, 2, 2, 3, 3, 3, 4, 4, 5, 6, 8, 9, usize::MAX]);
+    let letters = numbers.one_of(&[1, 2, 2, 3, 3, 4, 32]);
+    let words = Grown::new(numbers, size, plain, until_like, letters).words;
+    reordered(numbers, &words)
+}
+
+const PLAIN: [u32; 7] = [5, 6, 7, 8, 9, 10, 11];
+const WRITTEN: [u32; 12] = [5, 6, 7, 8, 9, 10, 11, 12, 12, 13, 14, 15];
+
+/// Words that are grown one by one until all hang together.
+struct Grown {
+    words: Vec<Word>,
+    seen: HashSet<(u32, usize, usize)>,
+    loose: Vec<usize>,
+    until_like: usize,
+}
+
+impl Grown {
+    fn new(numbers: &mut Numbers, size: usize, plain: bool, until_like: usize, letters: usize) -> Grown {
+        let mut grown = Grown { words: vec![], seen: HashSet::new(), loose: vec![], until_like };
+        grown.leaf(numbers, letters);
+        while grown.words.len() + grown.loose.len() < size + 1 {
+            if size < 1000 && numbers.once_in(if grown.words.len() < 6 { 3 } else { 8 }) {
+                grown.leaf(numbers, letters);
+            } else {
+                let kind = numbers.one_of(if plain { &PLAIN[..] } else { &WRITTEN });
+                grown.over(numbers, kind);
+            }
+        }
+        while grown.loose.len() > 1 {
+            let kind = numbers.one_of(&[5, 6]);
+            grown.over(numbers, kind);
+        }
+        grown
+    }
+
+    fn put(&mut self, kind: u32, left: usize, right: usize) {
+        if self.seen.insert((kind, left, right)) {
+            let word = Word::new(kind, left, right);
+            self.loose.retain(|n| !word.operands().contains(n));
+            self.words.push(word);
+            self.loose.push(self.words.len());
+        }
+    }
+
+    fn leaf(&mut self, numbers: &mut Numbers, letters: usize) {
+        match numbers.below(12) {
+            0 => self.put(1, 0, 0),
+            1 => self.put(2, 0, 0),
+            2..=4 => self.put(4, 0, numbers.between(1, letters)),
+            _ => self.put(3, 0, numbers.between(1, letters)),
+        }
+    }
+
+    /// A word over earlier ones, mostly over such as nothing uses yet.
+    fn over(&mut self, numbers: &mut Numbers, kind: u32) {
+        let until_like = matches!(kind, 8..=11 | 13 | 14);
+        if until_like && self.until_like == 0 {
+            let kind = numbers.one_of(&[5, 6, 7]);
+            return self.over(numbers, kind);
+        }
+        let before = self.words.len();
+        let right = self.operand(numbers, 0);
+        if matches!(kind, 7 | 12 | 13 | 14) {
+            self.put(kind, 0, right);
+        } else {
+            let left = self.operand(numbers, right);
+            if numbers.once_in(2) {
+                self.put(kind, left, right)
+            } else {
+                self.put(kind, right, left)
+            }
+        }
+        if until_like && self.words.len() > before && self.until_like != usize::MAX {
+            self.until_like -= 1;
+        }
+    }
+
+    fn operand(&mut self, numbers: &mut Numbers, other: usize) -> usize {
+        let loose: Vec<usize> = self.loose.iter().rev().take(40).copied().filter(|&n| n != other).collect();
+        if !loose.is_empty() && !numbers.once_in(4) {
+            numbers.one_of(&loose)
+        } else {
+            numbers.between(1, self.words.len())
+        }
+    }
+}
+
+/// The same words in another order: any in which operands come first.
+fn reordered(numbers: &mut Numbers, words: &[Word]) -> Vec<u32> {
+    let mut number = vec![0; words.len() + 1];
+    let mut ready: Vec<usize> = Vec::new();
+    let mut waits: Vec<usize> = words.iter().map(|w| w.operands().len()).collect();
+    let mut users: Vec<Vec<usize>> = vec![vec![]; words.len() + 1];
+    for (n, word) in (1..).zip(words) {
+        word.operands().into_iter().for_each(|o| users[o].push(n));
+        if word.operands().is_empty() {
+            ready.push(n);
+        }
+    }
+    let mut order = Vec::new();
+    while !ready.is_empty() {
+        let n = ready.swap_remove(numbers.below(ready.len()));
+        order.push(n);
+        number[n] = order.len();
+        for &user in &users[n] {
+            waits[user - 1] -= 1;
+            if waits[user - 1] == 0 {
+                ready.push(user);
+            }
+        }
+    }
+    let field = |n: usize, word: Word| if word.operands().contains(&n) { number[n] } else { n };
+    // past 16,383 words a number no longer fits its field
+    let bits = |word: Word| {
+        Word::new(word.kind, field(word.left, word) % (MOST_WORDS + 1), field(word.right, word) % (MOST_WORDS + 1)).bits()
+    };
+    order.into_iter().map(|n| if words[n - 1].operands().is_empty() { words[n - 1].bits() } else { bits(words[n - 1]) }).collect()
+}
+
+/// A table damaged in one way, or in two.
+fn damage(numbers: &mut Numbers, table: &mut Vec<u32>) {
+    loop {
+        let at = numbers.below(table.len().max(1));
+        match numbers.below(10) {
+            0..=2 if !table.is_empty() => table[at] ^= 1 << numbers.below(32),
+            3 if !table.is_empty() => table[at] = numbers.next() as u32,
+            4 if !table.is_empty() => table[at] = table[numbers.below(table.len())],
+            5 if !table.is_empty() => {
+                table[at] = numbers.one_of(&[0, 0x7000_0000, 0x3000_0000, 0x3000_0021, 0x3000_0020, 0x5000_0001, 0xC000_4001])
+            }
+            6 if !table.is_empty() => drop(table.remove(at)),
+            7 => table.insert(at, numbers.next() as u32 % 0xFFFF + (numbers.below(16) as u32) * 0x1000_0000),
+            8 => table.truncate(at),
+            _ => {
+                let other = numbers.below(table.len().max(1));
+                if !table.is_empty() {
+                    table.swap(at, other);
+                }
+            }
+        }
+        if !numbers.once_in(4) {
+            return;
+        }
+    }
+}
+
+/// Samples in which some letters hold mostly and others seldom. Long tables get short recordings, for the reference's sake.
+fn samples(numbers: &mut Numbers, words: usize) -> Vec<u32> {
+    let long = match numbers.below(1000) {
+        0..=9 => 0,
+        10..=12 if words < 14 => numbers.one_of(&[4095, 4096, 4097, 5000]),
+        13..=60 if words < 60 => numbers.between(120, 300),
+        61..=300 if words < 150 => numbers.between(60, 131),
+        _ if words < 1000 => numbers.between(1, 70),
+        _ => numbers.between(1, 5),
+    };
+    let shares: Vec<usize> = (0..32).map(|_| numbers.one_of(&[0, 1, 4, 8, 12, 15, 16])).collect();
+    let bit = |numbers: &mut Numbers, share: usize| (numbers.below(16) < share) as u32;
+    (0..long).map(|_| (0..).zip(&shares).map(|(b, &share)| bit(numbers, share) << b).sum()).collect()
+}
+
+fn start(numbers: &mut Numbers, samples: usize) -> usize {
+    match numbers.below(20) {
+        0 => samples,
+        1 => samples.saturating_sub(1),
+        2 => 0,
+        3 if numbers.once_in(4) => numbers.next() as usize,
+        _ => numbers.below(samples.max(1)),
+    }
+}
+
+fn tally(numbers: &mut Numbers) -> (u32, u32) {
+    match numbers.below(12) {
+        0 => (u32::MAX, numbers.next() as u32),
+        1 => (u32::MAX - 1, numbers.next() as u32),
+        2 => (numbers.next() as u32, numbers.next() as u32),
+        3 => (u32::MAX - 1, u32::MAX - 1),
+        4 => (5, 6),
+        _ => {
+            let judged = numbers.next() as u32 >> 4;
+            (judged, judged / 2)
+        }
+    }
+}

@@ -1,0 +1,50 @@
+//! One input of every step: a table, a recording, a tally, and the rooms of the slices that are lent.
+use std::fmt;
+
+#[derive(Clone, PartialEq, Eq, Debug)]
+pub struct Input {
+    pub table: Vec<u32>,
+    /// Of the check by itself.
+    pub plain_only: bool,
+    pub limit: usize,
+    /// Of the class step.
+    pub bytes: usize,
+    /// Of the plain-form step, of the normal-form step, and the two of the whole way.
+    pub plain: usize,
+    pub normal: usize,
+    pub form_plain: usize,
+    pub form: usize,
+    /// Of the judge and the row call.
+    pub samples: Vec<u32>,
+    pub start: usize,
+    pub scratch: usize,
+    pub judged: u32,
+    pub held: u32,
+}
+
+impl Input {
+    /// What shrinking makes smaller.
+    pub fn size(&self) -> (usize, usize, usize, u64) {
+        let rooms = self.bytes + self.plain + self.normal + self.form_plain + self.form + self.scratch;
+        let words: u64 = self.table.iter().map(|&w| w as u64).sum();
+        let rest =
+            self.start as u64 + self.judged as u64 + self.held as u64 + self.limit.min(1 << 40) as u64 + self.plain_only as u64;
+        let bits: u64 = self.samples.iter().map(|s| s.count_ones() as u64).sum();
+        (self.table.len() + self.samples.len(), self.table.len(), rooms, words + rest + bits)
+    }
+}
+
+impl fmt::Display for Input {
+    fn fmt(&self, f: &mut fmt::Formatter) -> fmt::Result {
+        let hex = |words: &[u32]| words.iter().map(|w| format!(" {w:08X}")).collect::<String>();
+        writeln!(f, "table of {} words:{}", self.table.len(), hex(&self.table))?;
+        writeln!(f, "check: plain only {}, limit {}", self.plain_only, self.limit)?;
+        writeln!(
+            f,
+            "rooms: bytes {}, plain {}, normal {}, whole way {} and {}, scratch {}",
+            self.bytes, self.plain, self.normal, self.form_plain, self.form, self.scratch
+        )?;
+        writeln!(f, "recording of {} samples, loop start {}:{}", self.samples.len(), self.start, hex(&self.samples))?;
+        write!(f, "tally: judged {}, held {}", self.judged, self.held)
+    }
+}

@@ -1,0 +1,207 @@
+//! The calls of `include/showrule.h`, answered by the proved library and by the reference.
+use reference::checks::Refusal;
+use reference::steps;
+use reference::word::Word;
+use showrule::ffi;
+use std::cell::RefCell;
+use std::collections::HashMap;
+
+/// A judgement's lent numbers.
+#[derive(Clone, Copy)]
+pub struct Lent {
+    pub judged: u32,
+    pub held: u32,
+    pub holds: bool,
+    pub moments: usize,
+    pub failing: usize,
+}
+
+pub trait Library {
+    fn check(&self, table: &[u32], plain: bool, limit: usize, place: &mut usize) -> u32;
+    fn classify(&self, table: &[u32], bytes: &mut [u8], place: &mut usize) -> u32;
+    fn plain(&self, table: &[u32], result: &mut [u32], words: &mut usize, place: &mut usize) -> u32;
+    fn normal(&self, table: &[u32], result: &mut [u32], words: &mut usize, place: &mut usize) -> u32;
+    fn form(&self, table: &[u32], plain: &mut [u32], result: &mut [u32], words: &mut usize, place: &mut usize) -> u32;
+    fn judge(&self, table: &[u32], samples: &[u32], start: usize, scratch: &mut [u64], lent: &mut Lent, place: &mut usize)
+        -> u32;
+    #[allow(clippy::too_many_arguments)]
+    fn row(
+        &self,
+        table: &[u32],
+        samples: &[u32],
+        start: usize,
+        scratch: &mut [u64],
+        from: &mut usize,
+        words: &mut usize,
+        place: &mut usize,
+    ) -> u32;
+}
+
+pub struct Product;
+
+impl Library for Product {
+    fn check(&self, table: &[u32], plain: bool, limit: usize, place: &mut usize) -> u32 {
+        unsafe { ffi::showrule_check(table.as_ptr(), table.len(), plain, limit, place) }
+    }
+
+    fn classify(&self, table: &[u32], bytes: &mut [u8], place: &mut usize) -> u32 {
+        unsafe { ffi::showrule_classify(table.as_ptr(), table.len(), bytes.as_mut_ptr(), bytes.len(), place) }
+    }
+
+    fn plain(&self, table: &[u32], result: &mut [u32], words: &mut usize, place: &mut usize) -> u32 {
+        unsafe { ffi::showrule_plain(table.as_ptr(), table.len(), result.as_mut_ptr(), result.len(), words, place) }
+    }
+
+    fn normal(&self, table: &[u32], result: &mut [u32], words: &mut usize, place: &mut usize) -> u32 {
+        unsafe { ffi::showrule_normal(table.as_ptr(), table.len(), result.as_mut_ptr(), result.len(), words, place) }
+    }
+
+    fn form(&self, table: &[u32], plain: &mut [u32], result: &mut [u32], words: &mut usize, place: &mut usize) -> u32 {
+        let (p, r) = (plain.as_mut_ptr(), result.as_mut_ptr());
+        unsafe { ffi::showrule_form(table.as_ptr(), table.len(), p, plain.len(), r, result.len(), words, place) }
+    }
+
+    fn judge(
+        &self,
+        table: &[u32],
+        samples: &[u32],
+        start: usize,
+        scratch: &mut [u64],
+        lent: &mut Lent,
+        place: &mut usize,
+    ) -> u32 {
+        unsafe {
+            ffi::showrule_judge(
+                table.as_ptr(),
+                table.len(),
+                samples.as_ptr(),
+                samples.len(),
+                start,
+                scratch.as_mut_ptr(),
+                scratch.len(),
+                &mut lent.judged,
+                &mut lent.held,
+                &mut lent.holds,
+                &mut lent.moments,
+                &mut lent.failing,
+                place,
+            )
+        }
+    }
+
+    fn row(
+        &self,
+        table: &[u32],
+        samples: &[u32],
+        start: usize,
+        scratch: &mut [u64],
+        from: &mut usize,
+        words: &mut usize,
+        place: &mut usize,
+    ) -> u32 {
+        let (s, room) = (scratch.as_mut_ptr(), scratch.len());
+        unsafe {
+            ffi::showrule_row(table.as_ptr(), table.len(), samples.as_ptr(), samples.len(), start, s, room, from, words, place)
+        }
+    }
+}
+
+type Forms = RefCell<HashMap<Vec<u32>, Result<Vec<Word>, Refusal>>>;
+
+/// The reference. A form is made once an input, whatever slices it is written to.
+#[derive(Default)]
+pub struct Reference {
+    plain: Forms,
+    normal: Forms,
+}
+
+impl Reference {
+    pub fn plain_form(&self, table: &[u32]) -> Result<Vec<Word>, Refusal> {
+        self.plain.borrow_mut().entry(table.to_vec()).or_insert_with(|| steps::plain_form(table)).clone()
+    }
+
+    pub fn normal_form(&self, table: &[u32]) -> Result<Vec<Word>, Refusal> {
+        self.normal.borrow_mut().entry(table.to_vec()).or_insert_with(|| steps::normal_form(table)).clone()
+    }
+}
+
+/// Number and place in lent numbers, both 0 where the call is accepted.
+fn told<T>(answer: Result<T, Refusal>, place: &mut usize) -> (u32, Option<T>) {
+    match answer {
+        Ok(value) => {
+            *place = 0;
+            (0, Some(value))
+        }
+        Err(refusal) => {
+            *place = refusal.place;
+            (refusal.number, None)
+        }
+    }
+}
+
+fn words_told(answer: Result<usize, Refusal>, words: &mut usize, place: &mut usize) -> u32 {
+    let (number, made) = told(answer, place);
+    *words = made.unwrap_or(0);
+    number
+}
+
+impl Library for Reference {
+    fn check(&self, table: &[u32], plain: bool, limit: usize, place: &mut usize) -> u32 {
+        told(steps::check(table, plain, limit), place).0
+    }
+
+    fn classify(&self, table: &[u32], bytes: &mut [u8], place: &mut usize) -> u32 {
+        told(steps::classify(table, bytes), place).0
+    }
+
+    fn plain(&self, table: &[u32], result: &mut [u32], words: &mut usize, place: &mut usize) -> u32 {
+        words_told(steps::write(self.plain_form(table), result), words, place)
+    }
+
+    fn normal(&self, table: &[u32], result: &mut [u32], words: &mut usize, place: &mut usize) -> u32 {
+        words_told(steps::write(self.normal_form(table), result), words, place)
+    }
+
+    fn form(&self, table: &[u32], plain: &mut [u32], result: &mut [u32], words: &mut usize, place: &mut usize) -> u32 {
+        let made = steps::write(self.plain_form(table), plain);
+        words_told(made.and_then(|n| steps::write(self.normal_form(&plain[..n]), result)), words, place)
+    }
+
+    fn judge(
+        &self,
+        table: &[u32],
+        samples: &[u32],
+        start: usize,
+        scratch: &mut [u64],
+        lent: &mut Lent,
+        place: &mut usize,
+    ) -> u32 {
+        let mut tally = steps::Tally { judged: lent.judged, held: lent.held };
+        let (number, judged) = told(steps::judge(table, samples, start, scratch, &mut tally), place);
+        let judgement = judged.unwrap_or(steps::Judgement { holds: false, moments: 0, failing: 0 });
+        *lent = Lent {
+            judged: tally.judged,
+            held: tally.held,
+            holds: judgement.holds,
+            moments: judgement.moments,
+            failing: judgement.failing,
+        };
+        number
+    }
+
+    fn row(
+        &self,
+        table: &[u32],
+        samples: &[u32],
+        start: usize,
+        scratch: &mut [u64],
+        from: &mut usize,
+        words: &mut usize,
+        place: &mut usize,
+    ) -> u32 {
+        let (number, part) = told(steps::row(table, samples, start, scratch), place);
+        let part = part.unwrap_or(0..0);
+        (*from, *words) = (part.start, part.len());
+        number
+    }
+}

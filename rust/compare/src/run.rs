@@ -1,0 +1,173 @@
+//! Runs every step of a library on an input, and says where two libraries differ.
+use crate::input::Input;
+use crate::library::{Lent, Library};
+use std::fmt;
+
+/// What a call answered and left: the number, the lent numbers, and all memory that it could have reached.
+#[derive(Clone, PartialEq, Eq, Debug)]
+pub struct Seen {
+    step: &'static str,
+    number: u32,
+    lent: Vec<u64>,
+    memory: Vec<u64>,
+}
+
+pub struct Difference {
+    product: Seen,
+    reference: Seen,
+}
+
+/// Memory before and after each lent slice that no call may touch.
+const GUARD: usize = 4;
+
+/// A slice in the middle of memory that held a pattern.
+struct Memory<T> {
+    all: Vec<T>,
+    room: usize,
+}
+
+impl<T: Copy> Memory<T> {
+    fn new(room: usize, pattern: impl Fn(u64) -> T) -> Memory<T> {
+        let all = (0..room as u64 + 2 * GUARD as u64).map(|i| pattern((i + 1).wrapping_mul(0x9E37_79B9_7F4A_7C15))).collect();
+        Memory { all, room }
+    }
+
+    fn slice(&mut self) -> &mut [T] {
+        &mut self.all[GUARD..GUARD + self.room]
+    }
+}
+
+fn words(room: usize) -> Memory<u32> {
+    Memory::new(room, |x| (x >> 32) as u32)
+}
+
+fn held<T: Copy + Into<u64>>(memory: &Memory<T>) -> Vec<u64> {
+    memory.all.iter().map(|&x| x.into()).collect()
+}
+
+/// A lent number before a call.
+const BEFORE: usize = 0x5A5A_5A5A;
+
+/// Everything that a library answers to an input.
+fn seen(library: &dyn Library, input: &Input) -> Vec<Seen> {
+    vec![
+        check(library, input, "check", input.plain_only, input.limit),
+        check(library, input, "check, written", false, 64),
+        check(library, input, "check, plain", true, 130),
+        classify(library, input),
+        plain(library, input),
+        normal(library, input),
+        form(library, input),
+        judge(library, input),
+        row(library, input),
+    ]
+}
+
+fn check(library: &dyn Library, input: &Input, step: &'static str, plain: bool, limit: usize) -> Seen {
+    let table = input.table.clone();
+    let mut place = BEFORE;
+    let number = library.check(&table, plain, limit, &mut place);
+    Seen { step, number, lent: vec![place as u64], memory: table.iter().map(|&w| w.into()).collect() }
+}
+
+fn classify(library: &dyn Library, input: &Input) -> Seen {
+    let mut bytes = Memory::new(input.bytes, |x| (x >> 56) as u8);
+    let mut place = BEFORE;
+    let number = library.classify(&input.table, bytes.slice(), &mut place);
+    Seen { step: "class", number, lent: vec![place as u64], memory: held(&bytes) }
+}
+
+fn plain(library: &dyn Library, input: &Input) -> Seen {
+    let mut result = words(input.plain);
+    let (mut made, mut place) = (BEFORE, BEFORE);
+    let number = library.plain(&input.table, result.slice(), &mut made, &mut place);
+    Seen { step: "plain form", number, lent: vec![made as u64, place as u64], memory: held(&result) }
+}
+
+fn normal(library: &dyn Library, input: &Input) -> Seen {
+    let mut result = words(input.normal);
+    let (mut made, mut place) = (BEFORE, BEFORE);
+    let number = library.normal(&input.table, result.slice(), &mut made, &mut place);
+    Seen { step: "normal form", number, lent: vec![made as u64, place as u64], memory: held(&result) }
+}
+
+fn form(library: &dyn Library, input: &Input) -> Seen {
+    let (mut plain, mut result) = (words(input.form_plain), words(input.form));
+    let (mut made, mut place) = (BEFORE, BEFORE);
+    let number = library.form(&input.table, plain.slice(), result.slice(), &mut made, &mut place);
+    let memory = [held(&plain), held(&result)].concat();
+    Seen { step: "whole way", number, lent: vec![made as u64, place as u64], memory }
+}
+
+fn judge(library: &dyn Library, input: &Input) -> Seen {
+    let mut scratch = Memory::new(input.scratch, |x| x);
+    let mut place = BEFORE;
+    let mut lent = Lent { judged: input.judged, held: input.held, holds: true, moments: BEFORE, failing: BEFORE };
+    let number = library.judge(&input.table, &input.samples, input.start, scratch.slice(), &mut lent, &mut place);
+    let lent =
+        vec![lent.judged.into(), lent.held.into(), lent.holds.into(), lent.moments as u64, lent.failing as u64, place as u64];
+    Seen { step: "judge", number, lent, memory: held(&scratch) }
+}
+
+fn row(library: &dyn Library, input: &Input) -> Seen {
+    let mut scratch = Memory::new(input.scratch, |x| x);
+    let (mut from, mut long, mut place) = (BEFORE, BEFORE, BEFORE);
+    let (samples, start) = (&input.samples, input.start);
+    let number = library.row(&input.table, samples, start, scratch.slice(), &mut from, &mut long, &mut place);
+    Seen { step: "row", number, lent: vec![from as u64, long as u64, place as u64], memory: held(&scratch) }
+}
+
+/// Demand 3, tried: whether the library's form of the rule holds where the rule does, and is in Delta-2, by its own judge and classes.
+fn agreement(library: &dyn Library, input: &Input) -> Seen {
+    let (mut plain, mut result) = (vec![0; 130], vec![0; 16_383]);
+    let (mut made, mut place) = (0, 0);
+    let mut lent = AGREED.to_vec();
+    let form_made = library.form(&input.table, &mut plain, &mut result, &mut made, &mut place) == 0;
+    if form_made && !input.samples.is_empty() && made * input.samples.len() < 400_000 {
+        let start = input.start % input.samples.len();
+        let mut bytes = vec![0; made];
+        library.classify(&result[..made], &mut bytes, &mut place);
+        let of = |table: &[u32]| {
+            let mut scratch = vec![0; table.len() * input.samples.len().div_ceil(64)];
+            let (mut from, mut long, mut place) = (0, 0, 0);
+            library.row(table, &input.samples, start, &mut scratch, &mut from, &mut long, &mut place);
+            scratch[from..from + long].to_vec()
+        };
+        lent = vec![(of(&input.table) == of(&result[..made])) as u64, (bytes[made - 1] >> 6 & 1).into()];
+    }
+    Seen { step: AGREEMENT, number: 0, lent, memory: vec![] }
+}
+
+const AGREEMENT: &str = "rule and form agree, form in Delta-2";
+const AGREED: [u64; 2] = [1, 1];
+
+/// The number that each step answered, or the first step at which the two differ.
+pub fn compare(
+    product: &dyn Library,
+    reference: &dyn Library,
+    input: &Input,
+) -> Result<Vec<(&'static str, u32)>, Box<Difference>> {
+    let agreed = Seen { step: AGREEMENT, number: 0, lent: AGREED.to_vec(), memory: vec![] };
+    let steps = seen(product, input).into_iter().zip(seen(reference, input)).chain([(agreement(product, input), agreed)]);
+    let same = |(product, reference): (Seen, Seen)| {
+        if product == reference {
+            Ok((product.step, product.number))
+        } else {
+            Err(Box::new(Difference { product, reference }))
+        }
+    };
+    steps.map(same).collect()
+}
+
+impl fmt::Display for Difference {
+    fn fmt(&self, f: &mut fmt::Formatter) -> fmt::Result {
+        for (who, seen) in [("library", &self.product), ("reference", &self.reference)] {
+            writeln!(f, "{}: the {who} answers {}, lent numbers {:?}", seen.step, seen.number, seen.lent)?;
+        }
+        let (a, b) = (&self.product.memory, &self.reference.memory);
+        for (i, (x, y)) in a.iter().zip(b).enumerate().filter(|(_, (x, y))| x != y).take(8) {
+            writeln!(f, "memory at {i} ({GUARD} before the first slice): {x:X}, and by the reference {y:X}")?;
+        }
+        Ok(())
+    }
+}

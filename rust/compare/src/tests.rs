@@ -1,0 +1,120 @@
+//! Libraries with a fault: each is found, and the input that shows it is made small.
+use crate::generate;
+use crate::input::Input;
+use crate::library::{Lent, Library, Reference};
+use crate::numbers::Numbers;
+use crate::run::compare;
+use crate::smallest_difference;
+
+/// The reference with one fault.
+struct Faulty {
+    fault: Fault,
+    right: Reference,
+}
+
+#[derive(Clone, Copy, PartialEq)]
+enum Fault {
+    RefusalUntouched,
+    WordPastTheEnd,
+    PlaceOneLow,
+    RowNotLast,
+    HeldForgotten,
+    GuardWritten,
+}
+
+impl Library for Faulty {
+    fn check(&self, table: &[u32], plain: bool, limit: usize, place: &mut usize) -> u32 {
+        let number = self.right.check(table, plain, limit, place);
+        if self.fault == Fault::PlaceOneLow && number == 10 {
+            *place -= 1;
+        }
+        number
+    }
+
+    fn classify(&self, table: &[u32], bytes: &mut [u8], place: &mut usize) -> u32 {
+        self.right.classify(table, bytes, place)
+    }
+
+    fn plain(&self, table: &[u32], result: &mut [u32], words: &mut usize, place: &mut usize) -> u32 {
+        let before = result.to_vec();
+        let number = self.right.plain(table, result, words, place);
+        if self.fault == Fault::RefusalUntouched && number == 12 {
+            result.copy_from_slice(&before);
+        }
+        number
+    }
+
+    fn normal(&self, table: &[u32], result: &mut [u32], words: &mut usize, place: &mut usize) -> u32 {
+        let number = self.right.normal(table, result, words, place);
+        if self.fault == Fault::WordPastTheEnd && number == 0 && *words < result.len() {
+            result[*words] = 0;
+        }
+        if self.fault == Fault::GuardWritten && number == 0 && *words == result.len() {
+            // SAFETY: the comparison lends the middle of a larger memory
+            unsafe { *result.as_mut_ptr().add(result.len()) = 0 };
+        }
+        number
+    }
+
+    fn form(&self, table: &[u32], plain: &mut [u32], result: &mut [u32], words: &mut usize, place: &mut usize) -> u32 {
+        self.right.form(table, plain, result, words, place)
+    }
+
+    fn judge(
+        &self,
+        table: &[u32],
+        samples: &[u32],
+        start: usize,
+        scratch: &mut [u64],
+        lent: &mut Lent,
+        place: &mut usize,
+    ) -> u32 {
+        let held = lent.held;
+        let number = self.right.judge(table, samples, start, scratch, lent, place);
+        if self.fault == Fault::HeldForgotten {
+            lent.held = held;
+        }
+        number
+    }
+
+    fn row(
+        &self,
+        table: &[u32],
+        samples: &[u32],
+        start: usize,
+        scratch: &mut [u64],
+        from: &mut usize,
+        words: &mut usize,
+        place: &mut usize,
+    ) -> u32 {
+        let number = self.right.row(table, samples, start, scratch, from, words, place);
+        if self.fault == Fault::RowNotLast {
+            *from = 0;
+        }
+        number
+    }
+}
+
+/// The smallest input that shows a fault, from the first random input that does.
+fn found(fault: Fault) -> Input {
+    let faulty = Faulty { fault, right: Reference::default() };
+    let shows = |input: &Input| compare(&faulty, &Reference::default(), input).is_err();
+    let input = (0..2000).map(|n| generate::input(&mut Numbers::new(1, n))).find(shows).expect("the fault shows");
+    smallest_difference(&faulty, input).0
+}
+
+#[test]
+fn faults_are_found_and_made_small() {
+    for fault in [
+        Fault::RefusalUntouched,
+        Fault::WordPastTheEnd,
+        Fault::PlaceOneLow,
+        Fault::RowNotLast,
+        Fault::HeldForgotten,
+        Fault::GuardWritten,
+    ] {
+        let smallest = found(fault);
+        assert!(smallest.table.len() <= 3, "{smallest}");
+        assert!(smallest.samples.len() <= 1, "{smallest}");
+    }
+}

@@ -1,0 +1,162 @@
+//! A case of the case runner: how it is written for the runner, and what the runner must print.
+use reference::checks::Refusal;
+use reference::edges::chain_of_next;
+use reference::steps::{self, Judgement, Tally};
+
+#[derive(Clone, Copy, PartialEq, Eq)]
+pub enum Step {
+    Check = 1,
+    Class,
+    Plain,
+    Normal,
+    Form,
+    Judge,
+    Row,
+}
+
+#[derive(Clone)]
+pub struct Case {
+    pub label: String,
+    pub step: Step,
+    /// The table: words of a chain (letter 1, then X of the word before), then listed ones, then one of all replaced.
+    pub chain: usize,
+    pub listed: Vec<u32>,
+    pub replaced: Option<(usize, u32)>,
+    /// Rooms of the lent slices.
+    pub room: usize,
+    pub second: usize,
+    pub plain: bool,
+    pub limit: usize,
+    pub samples: Samples,
+    pub start: usize,
+    pub tally: Tally,
+}
+
+#[derive(Clone)]
+pub enum Samples {
+    Listed(Vec<u32>),
+    /// So many that a seed makes.
+    Made(usize, u32),
+}
+
+impl Case {
+    pub fn new(label: &str, step: Step, table: &[u32], room: usize) -> Case {
+        Case {
+            label: label.into(),
+            step,
+            chain: 0,
+            listed: table.to_vec(),
+            replaced: None,
+            room,
+            second: 0,
+            plain: false,
+            limit: 0,
+            samples: Samples::Listed(vec![]),
+            start: 0,
+            tally: Tally { judged: 0, held: 0 },
+        }
+    }
+
+    /// The case as the runner reads it (crates/cases/src/input.rt).
+    pub fn words(&self) -> Vec<u32> {
+        let (place, word) = self.replaced.unwrap_or((0, 0));
+        let (listed, count, seed) = match &self.samples {
+            Samples::Listed(samples) => (samples.clone(), samples.len(), 0),
+            Samples::Made(count, seed) => (vec![], *count, *seed),
+        };
+        let number = |n: usize| u32::try_from(n).expect("a word");
+        let mut words = vec![self.step as u32, number(self.chain), number(self.listed.len()), number(place), word];
+        words.extend([number(self.room), number(self.second), self.plain as u32, number(self.limit)]);
+        words.extend([number(count), number(self.start), self.tally.judged, self.tally.held, seed]);
+        words.extend(&self.listed);
+        words.extend(listed);
+        words
+    }
+
+    fn table(&self) -> Vec<u32> {
+        let mut table = [chain_of_next(self.chain), self.listed.clone()].concat();
+        if let Some((place, word)) = self.replaced {
+            table[place - 1] = word;
+        }
+        table
+    }
+
+    fn recording(&self) -> Vec<u32> {
+        match &self.samples {
+            Samples::Listed(samples) => samples.clone(),
+            Samples::Made(count, seed) => record(*seed, *count),
+        }
+    }
+
+    /// The line that the runner must print: number and place, the lent numbers, and a sum over the whole of each lent slice.
+    pub fn prints(&self) -> String {
+        let table = self.table();
+        match self.step {
+            Step::Check => answer(&steps::check(&table, self.plain, self.limit)),
+            Step::Class => {
+                let mut bytes = vec![0xEE; 16_400];
+                let said = answer(&steps::classify(&table, &mut bytes[..self.room]));
+                format!("{said}{}", sum(bytes.iter().map(|&b| b.into())))
+            }
+            Step::Plain => {
+                let mut result = vec![0xEEEE_EEEE; 140];
+                let made = steps::plain(&table, &mut result[..self.room]);
+                format!("{}, {}{}", answer(&made), made.unwrap_or(0), words(&result))
+            }
+            Step::Normal => {
+                let mut result = vec![0xEEEE_EEEE; 16_400];
+                let made = steps::normal(&table, &mut result[..self.room]);
+                format!("{}, {}{}", answer(&made), made.unwrap_or(0), words(&result))
+            }
+            Step::Form => {
+                let (mut plain, mut result) = (vec![0xEEEE_EEEE; 140], vec![0xEEEE_EEEE; 16_400]);
+                let made = steps::form(&table, &mut plain[..self.room], &mut result[..self.second]);
+                format!("{}, {}{}{}", answer(&made), made.unwrap_or(0), words(&plain), words(&result))
+            }
+            Step::Judge => {
+                let mut scratch = vec![u64::MAX; 2_100];
+                let mut tally = self.tally;
+                let judged = steps::judge(&table, &self.recording(), self.start, &mut scratch[..self.room], &mut tally);
+                let j = judged.unwrap_or(Judgement { holds: false, moments: 0, failing: 0 });
+                let holds = if j.holds { "holds" } else { "fails" };
+                let (said, rows) = (answer(&judged), rows(&scratch));
+                format!("{said}, {holds}, {}, {}, {}, {}{rows}", j.moments, j.failing, tally.judged, tally.held)
+            }
+            Step::Row => {
+                let mut scratch = vec![u64::MAX; 2_100];
+                let part = steps::row(&table, &self.recording(), self.start, &mut scratch[..self.room]);
+                let said = answer(&part);
+                let part = part.unwrap_or(0..0);
+                format!("{said}, {}, {}{}", part.start, part.len(), rows(&scratch))
+            }
+        }
+    }
+}
+
+fn answer<T>(answer: &Result<T, Refusal>) -> String {
+    let refusal = answer.as_ref().err().copied().unwrap_or(Refusal { number: 0, place: 0 });
+    format!("{} at {}", refusal.number, refusal.place)
+}
+
+/// A sum in which the place of every element counts.
+fn sum(values: impl Iterator<Item = u64>) -> String {
+    format!(", {:08X}", values.fold(0, |x, value| (x * 31 + value) % (1 << 32)))
+}
+
+fn words(slice: &[u32]) -> String {
+    sum(slice.iter().map(|&w| w.into()))
+}
+
+fn rows(scratch: &[u64]) -> String {
+    sum(scratch.iter().map(|w| w % (1 << 32) * 3 + (w >> 32)))
+}
+
+/// Samples that look random: letter 1 holds mostly, letter 2 seldom, letter 3 half the time.
+fn record(seed: u32, n: usize) -> Vec<u32> {
+    let mut x = seed as u64 % (1 << 31);
+    let mut sample = || {
+        x = (x * 1_103_515_245 + 12_345) % (1 << 31);
+        (x / 65_536 % 8 != 0) as u32 + 2 * (x / 524_288 % 64 == 0) as u32 + 4 * (x / 256 % 2) as u32
+    };
+    (0..n).map(|_| sample()).collect()
+}

@@ -1,0 +1,31 @@
+//! Prints a written rule's tables with each word's rule beside it: as written, in plain form and in normal form, with class bytes.
+//!
+//!     explain TEXT        as: explain 'G(p1 -> F p2)'
+use reference::class::Classes;
+use reference::forest::{Forest, Tree};
+use reference::listing::bits;
+use reference::steps::{normal_form, plain_form};
+use reference::text::{read, show};
+
+fn main() {
+    let text = std::env::args().nth(1).expect("usage: explain TEXT");
+    let mut forest = Forest::new();
+    let tree = read(&mut forest, &text);
+    let written = bits(&forest, tree);
+    print("written", &written, false);
+    let plain: Vec<u32> = plain_form(&written).expect("it passes the checks").iter().map(|w| w.bits()).collect();
+    print("plain form", &plain, true);
+    let form: Vec<u32> = normal_form(&plain).expect("it passes the checks").iter().map(|w| w.bits()).collect();
+    print("normal form", &form, true);
+}
+
+fn print(title: &str, table: &[u32], with_class: bool) {
+    println!("{title}: {} words", table.len());
+    let mut forest = Forest::new();
+    let trees: Vec<Tree> = forest.of_table(table);
+    let classes = Classes::of(&forest, &trees);
+    for ((n, word), &tree) in (1..).zip(table).zip(&trees) {
+        let class = if with_class { format!("  {:02X}", classes.byte(tree)) } else { String::new() };
+        println!("{n:4}  {word:08X}{class}  {}", show(&forest, tree));
+    }
+}

@@ -1,0 +1,120 @@
+//! Document 01's check table. Every condition that applies is gathered with its rank, and the lowest rank is returned:
+//! "places run downward; the first that applies is returned".
+use crate::word::{Field, Word, MOST_WORDS};
+use std::collections::HashSet;
+
+/// A refusal: document 01's number, and the place of the faulty word, 0 where there is none.
+#[derive(Clone, Copy, PartialEq, Eq, Debug)]
+pub struct Refusal {
+    pub number: u32,
+    pub place: usize,
+}
+
+/// Row of the check table, word, order within the word.
+type Rank = (u32, usize, u32);
+
+#[derive(Default)]
+pub struct Faults {
+    found: Vec<(Rank, Refusal)>,
+}
+
+const WHOLE_TABLE: u32 = 1;
+const EACH_WORD: u32 = 2;
+const UNUSED: u32 = 3;
+const UNTIL_LIKE: u32 = 4;
+const RECORDING: u32 = 5;
+const SCRATCH: u32 = 6;
+const TALLY: u32 = 7;
+
+impl Faults {
+    fn note(&mut self, applies: bool, rank: Rank, number: u32) {
+        if applies {
+            let place = if (3..=11).contains(&number) { rank.1 } else { 0 };
+            self.found.push((rank, Refusal { number, place }));
+        }
+    }
+
+    /// Checks 1 to 10.
+    pub fn table(&mut self, table: &[u32], plain_only: bool, limit: usize) -> &mut Faults {
+        self.note(table.is_empty(), (WHOLE_TABLE, 0, 1), 1);
+        self.note(table.len() > limit.min(MOST_WORDS), (WHOLE_TABLE, 0, 2), 2);
+        let mut seen = HashSet::new();
+        let mut used = HashSet::new();
+        for (n, &bits) in (1..).zip(table) {
+            let word = Word::of(bits);
+            self.word(n, word, plain_only);
+            self.note(!seen.insert(bits), (EACH_WORD, n, 9), 9);
+            used.extend(word.operands());
+        }
+        for n in 1..table.len() {
+            self.note(!used.contains(&n), (UNUSED, n, 0), 10);
+        }
+        self
+    }
+
+    /// What one word has wrong in itself.
+    fn word(&mut self, n: usize, word: Word, plain_only: bool) {
+        self.note(word.kind == 0, (EACH_WORD, n, 1), 3);
+        self.note(plain_only && word.kind >= 12, (EACH_WORD, n, 2), 4);
+        let Some((left, right)) = word.fields() else { return };
+        for (field, value, order) in [(left, word.left, 4), (right, word.right, 6)] {
+            match field {
+                Field::Zero => self.note(value != 0, (EACH_WORD, n, 3), 8),
+                Field::Operand => {
+                    self.note(value == 0, (EACH_WORD, n, order), 5);
+                    self.note(value >= n, (EACH_WORD, n, order + 1), 6);
+                }
+                Field::Letter => self.note(!(1..=32).contains(&value), (EACH_WORD, n, 8), 7),
+            }
+        }
+    }
+
+    /// Check 11: the place is the ninth until-like word.
+    pub fn until_like(&mut self, table: &[u32]) -> &mut Faults {
+        let places: Vec<usize> = until_like(table);
+        if places.len() > 8 {
+            self.note(true, (UNTIL_LIKE, places[8], 0), 11);
+        }
+        self
+    }
+
+    /// Checks 13 to 15.
+    pub fn recording(&mut self, samples: usize, start: usize) -> &mut Faults {
+        self.note(samples == 0, (RECORDING, 0, 1), 13);
+        self.note(samples > 4096, (RECORDING, 0, 2), 14);
+        self.note(start >= samples, (RECORDING, 0, 3), 15);
+        self
+    }
+
+    /// Check 16.
+    pub fn scratch(&mut self, words: usize, samples: usize, scratch: usize) -> &mut Faults {
+        self.note(scratch < words * samples.div_ceil(64), (SCRATCH, 0, 0), 16);
+        self
+    }
+
+    /// Check 17.
+    pub fn tally(&mut self, judged: u32, held: u32) -> &mut Faults {
+        self.note(judged == u32::MAX || held > judged, (TALLY, 0, 0), 17);
+        self
+    }
+
+    pub fn first(&self) -> Result<(), Refusal> {
+        match self.found.iter().min_by_key(|(rank, _)| *rank) {
+            Some(&(_, refusal)) => Err(refusal),
+            None => Ok(()),
+        }
+    }
+}
+
+/// The numbers of the until-like words, rising.
+pub fn until_like(table: &[u32]) -> Vec<usize> {
+    (1..).zip(table).filter(|(_, &w)| (8..=11).contains(&Word::of(w).kind)).map(|(n, _)| n).collect()
+}
+
+/// Check 12, last: a slice counts for 16,383 words at most.
+pub fn fits(words: usize, slice: usize) -> Result<(), Refusal> {
+    if words > slice.min(MOST_WORDS) {
+        return Err(Refusal { number: 12, place: 0 });
+    }
+    Ok(())
+}

@@ -1,0 +1,99 @@
+//! Rules at the edges that document 01 names, for the runs of the program and the comparison.
+use crate::forest::{Forest, Node, Tree};
+use crate::listing::bits;
+use crate::text::read;
+use crate::word::Word;
+
+/// Letter 1, then X of the word before.
+pub fn chain_of_next(words: usize) -> Vec<u32> {
+    (0..words).map(|n| if n == 0 { 0x3000_0001 } else { Word::new(7, 0, n % 16_384).bits() }).collect()
+}
+
+/// Letter 1, then the word before with itself.
+pub fn chain_of_ands(ands: usize) -> Vec<u32> {
+    (0..=ands).map(|n| if n == 0 { 0x3000_0001 } else { Word::new(5, n, n).bits() }).collect()
+}
+
+/// k words of one until-like kind, one over the other.
+pub fn chain_of(kind: u32, k: usize) -> Vec<u32> {
+    let mut table = vec![0x3000_0001, 0x3000_0002];
+    table.extend((0..k).map(|n| Word::new(kind, if n == 0 { 1 } else { n + 2 }, 2).bits()));
+    table
+}
+
+/// Every operator nested in every other, so many deep: the rule as text, and its table.
+pub fn nested(deep: usize) -> Vec<(String, Vec<u32>)> {
+    let mut texts = vec!["p1".to_string()];
+    for letter in (2..).take(deep) {
+        let goal = format!("p{letter}");
+        texts = SHAPES.iter().flat_map(|shape| texts.iter().map(|inner| shape.replace('q', &goal).replace('_', inner))).collect();
+    }
+    texts.into_iter().map(|text| (text.clone(), bits_of(&text))).collect()
+}
+
+const SHAPES: [&str; 16] = [
+    "!_", "X _", "F _", "G _", "(_ & q)", "(q | _)", "(_ U q)", "(q U _)", "(_ W q)", "(q W _)", "(_ R q)", "(q R _)", "(_ M q)",
+    "(q M _)", "(_ -> q)", "(q -> _)",
+];
+
+fn bits_of(text: &str) -> Vec<u32> {
+    let mut forest = Forest::new();
+    let tree = read(&mut forest, text);
+    bits(&forest, tree)
+}
+
+/// Plain rules whose forms are as long as the program's slice, as long as any slice counts for, and a word longer or shorter: the form's
+/// length, and the table. Seven U and M words stand in one W word, so that the rule opens differently for each choice of them.
+pub fn long_forms() -> Vec<(usize, Vec<u32>)> {
+    LONG.iter().map(|(form_words, order, chains)| (*form_words, long_form(order, chains))).collect()
+}
+
+/// The form's length, the order of the seven words, and how many X stand over the first 1, 2, .. 7 of them and over the goal. An X over
+/// the first j adds about 2^j words to the form, one over the goal a single one.
+const LONG: [(usize, [usize; 7], [usize; 8]); 5] = [
+    (4_096, [2, 0, 1, 3, 4, 5, 6], [1, 1, 0, 0, 1, 1, 16, 2]),
+    (4_097, [2, 0, 1, 3, 4, 5, 6], [1, 1, 0, 0, 1, 1, 16, 3]),
+    (16_382, [1, 0, 4, 3, 2, 5, 6], [0, 0, 0, 0, 1, 0, 112, 0]),
+    (16_383, [1, 0, 4, 3, 2, 5, 6], [0, 0, 0, 0, 1, 0, 112, 1]),
+    (16_384, [1, 0, 3, 2, 4, 5, 6], [0, 0, 0, 0, 1, 0, 112, 0]),
+];
+
+fn long_form(order: &[usize; 7], chains: &[usize; 8]) -> Vec<u32> {
+    let mut forest = Forest::new();
+    let next = |forest: &mut Forest, tree: Tree, times: usize| (0..times).fold(tree, |t, _| forest.grow(Node::Next(t)));
+    let seven = seven(&mut forest);
+    let mut joined = None;
+    for (&n, &times) in order.iter().zip(chains) {
+        let all = match joined {
+            None => seven[n],
+            Some(before) => forest.grow(Node::And(before, seven[n])),
+        };
+        joined = Some(next(&mut forest, all, times));
+    }
+    let letter = forest.grow(Node::Letter(1));
+    let goal = next(&mut forest, letter, chains[7]);
+    let rule = forest.grow(Node::Weak(joined.expect("seven words"), goal));
+    bits(&forest, rule)
+}
+
+/// Seven different U and M words over two letters.
+fn seven(forest: &mut Forest) -> [Tree; 7] {
+    let (p, q) = (forest.grow(Node::Letter(1)), forest.grow(Node::Letter(2)));
+    let (pq, qp) = (forest.grow(Node::Until(p, q)), forest.grow(Node::Until(q, p)));
+    let others = [Node::Strong(p, q), Node::Strong(q, p), Node::Until(pq, q), Node::Until(qp, p), Node::Strong(pq, q)];
+    let [a, b, c, d, e] = others.map(|node| forest.grow(node));
+    [c, e, d, pq, qp, a, b]
+}
+
+#[cfg(test)]
+mod tests {
+    use super::*;
+    use crate::steps::normal_form;
+
+    #[test]
+    fn forms_are_as_long_as_said() {
+        for (form_words, table) in long_forms() {
+            assert_eq!(normal_form(&table).expect("it has a form").len(), form_words);
+        }
+    }
+}

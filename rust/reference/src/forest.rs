@@ -1,0 +1,96 @@
+//! Rules as trees. Equal trees are one and the same `Tree`, so that a rule whose tree is huge is as small as its table.
+use crate::word::Word;
+use std::collections::HashMap;
+
+#[derive(Clone, Copy, PartialEq, Eq, Hash, PartialOrd, Ord, Debug)]
+pub struct Tree(u32);
+
+#[derive(Clone, Copy, PartialEq, Eq, Hash, Debug)]
+pub enum Node {
+    False,
+    True,
+    Letter(usize),
+    NotLetter(usize),
+    And(Tree, Tree),
+    Or(Tree, Tree),
+    Next(Tree),
+    Until(Tree, Tree),
+    Weak(Tree, Tree),
+    Release(Tree, Tree),
+    Strong(Tree, Tree),
+    Not(Tree),
+    Finally(Tree),
+    Globally(Tree),
+    Implies(Tree, Tree),
+}
+
+#[derive(Default)]
+pub struct Forest {
+    nodes: Vec<Node>,
+    known: HashMap<Node, Tree>,
+}
+
+impl Forest {
+    pub fn new() -> Forest {
+        Forest::default()
+    }
+
+    /// The tree with this node at its root.
+    pub fn grow(&mut self, node: Node) -> Tree {
+        if let Some(&tree) = self.known.get(&node) {
+            return tree;
+        }
+        let tree = Tree(self.nodes.len() as u32);
+        self.nodes.push(node);
+        self.known.insert(node, tree);
+        tree
+    }
+
+    pub fn node(&self, tree: Tree) -> Node {
+        self.nodes[tree.0 as usize]
+    }
+
+    /// The tree of each word of a table that passes the checks.
+    pub fn of_table(&mut self, table: &[u32]) -> Vec<Tree> {
+        let mut trees: Vec<Tree> = Vec::new();
+        for &bits in table {
+            let word = Word::of(bits);
+            let node = node_of(word, |n| trees[n - 1]);
+            trees.push(self.grow(node));
+        }
+        trees
+    }
+
+    /// F and G as document 01 unfolds them.
+    pub fn finally(&mut self, a: Tree) -> Tree {
+        let top = self.grow(Node::True);
+        self.grow(Node::Until(top, a))
+    }
+
+    pub fn globally(&mut self, a: Tree) -> Tree {
+        let bottom = self.grow(Node::False);
+        self.grow(Node::Release(bottom, a))
+    }
+}
+
+fn node_of(word: Word, tree: impl Fn(usize) -> Tree) -> Node {
+    let (l, r) = (word.left, word.right);
+    match word.kind {
+        1 => Node::False,
+        2 => Node::True,
+        3 => Node::Letter(r),
+        4 => Node::NotLetter(r),
+        5 => Node::And(tree(l), tree(r)),
+        6 => Node::Or(tree(l), tree(r)),
+        7 => Node::Next(tree(r)),
+        8 => Node::Until(tree(l), tree(r)),
+        9 => Node::Weak(tree(l), tree(r)),
+        10 => Node::Release(tree(l), tree(r)),
+        11 => Node::Strong(tree(l), tree(r)),
+        12 => Node::Not(tree(r)),
+        13 => Node::Finally(tree(r)),
+        14 => Node::Globally(tree(r)),
+        15 => Node::Implies(tree(l), tree(r)),
+        _ => panic!("a table that passes the checks has no kind 0"),
+    }
+}

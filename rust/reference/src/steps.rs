@@ -1,0 +1,128 @@
+//! Every step as a desk calls it: the reply, and what each lent slice holds afterwards, refused calls included.
+use crate::checks::{fits, until_like, Faults, Refusal};
+use crate::class::Classes;
+use crate::forest::Forest;
+use crate::listing::list;
+use crate::normal::normal as normal_tree;
+use crate::plain::Plain;
+use crate::recording::{Recording, Truth};
+use crate::word::{Word, MOST_WORDS};
+use std::ops::Range;
+
+/// Judged and held.
+#[derive(Clone, Copy, PartialEq, Eq, Debug)]
+pub struct Tally {
+    pub judged: u32,
+    pub held: u32,
+}
+
+/// Whether the rule holds at moment 0, at how many moments, and the first that fails (the number of samples if none).
+#[derive(Clone, Copy, PartialEq, Eq, Debug)]
+pub struct Judgement {
+    pub holds: bool,
+    pub moments: usize,
+    pub failing: usize,
+}
+
+pub fn check(table: &[u32], plain_only: bool, limit: usize) -> Result<(), Refusal> {
+    Faults::default().table(table, plain_only, limit).first()
+}
+
+/// One byte a word.
+pub fn classify(table: &[u32], bytes: &mut [u8]) -> Result<(), Refusal> {
+    check(table, true, MOST_WORDS)?;
+    fits(table.len(), bytes.len()).inspect_err(|_| bytes.fill(0))?;
+    let mut forest = Forest::new();
+    let trees = forest.of_table(table);
+    let classes = Classes::of(&forest, &trees);
+    for (byte, tree) in bytes.iter_mut().zip(trees) {
+        *byte = classes.byte(tree);
+    }
+    Ok(())
+}
+
+/// The plain form, by every check but 12.
+pub fn plain_form(table: &[u32]) -> Result<Vec<Word>, Refusal> {
+    check(table, false, 64)?;
+    let mut forest = Forest::new();
+    let trees = forest.of_table(table);
+    let form = Plain::of(&mut forest, trees[trees.len() - 1]);
+    Ok(list(&forest, form))
+}
+
+/// The normal form, by every check but 12.
+pub fn normal_form(table: &[u32]) -> Result<Vec<Word>, Refusal> {
+    Faults::default().table(table, true, 130).until_like(table).first()?;
+    let mut forest = Forest::new();
+    let trees = forest.of_table(table);
+    let chosen: Vec<_> = until_like(table).iter().map(|n| trees[n - 1]).collect();
+    let form = normal_tree(&mut forest, trees[trees.len() - 1], &chosen);
+    Ok(list(&forest, form))
+}
+
+/// Writes a form to the front of a slice: check 12.
+pub fn write(form: Result<Vec<Word>, Refusal>, result: &mut [u32]) -> Result<usize, Refusal> {
+    let words = form?;
+    fits(words.len(), result.len()).inspect_err(|_| result.fill(0))?;
+    for (slot, word) in result.iter_mut().zip(&words) {
+        *slot = word.bits();
+    }
+    Ok(words.len())
+}
+
+pub fn plain(table: &[u32], result: &mut [u32]) -> Result<usize, Refusal> {
+    write(plain_form(table), result)
+}
+
+pub fn normal(table: &[u32], result: &mut [u32]) -> Result<usize, Refusal> {
+    write(normal_form(table), result)
+}
+
+/// The whole way: the normal-form step is handed exactly the words that the plain-form step answered.
+pub fn form(table: &[u32], plain_room: &mut [u32], result: &mut [u32]) -> Result<usize, Refusal> {
+    let words = plain(table, plain_room)?;
+    normal(&plain_room[..words], result)
+}
+
+/// The rows of all words, one after the other.
+fn rows(table: &[u32], recording: Recording) -> Vec<u64> {
+    let mut forest = Forest::new();
+    let trees = forest.of_table(table);
+    let truth = Truth::of(&forest, &trees, recording);
+    trees.iter().flat_map(|&tree| truth.packed(tree)).collect()
+}
+
+fn rule_row(table: &[u32], recording: Recording) -> Vec<bool> {
+    let mut forest = Forest::new();
+    let trees = forest.of_table(table);
+    Truth::of(&forest, &trees, recording).row(trees[trees.len() - 1]).to_vec()
+}
+
+fn row_faults(table: &[u32], samples: &[u32], start: usize, scratch: &[u64]) -> Faults {
+    let mut faults = Faults::default();
+    faults.table(table, false, MOST_WORDS).recording(samples.len(), start).scratch(table.len(), samples.len(), scratch.len());
+    faults
+}
+
+pub fn judge(table: &[u32], samples: &[u32], start: usize, scratch: &mut [u64], tally: &mut Tally) -> Result<Judgement, Refusal> {
+    row_faults(table, samples, start, scratch).tally(tally.judged, tally.held).first()?;
+    let recording = Recording { samples, start };
+    let rows = rows(table, recording);
+    scratch[..rows.len()].copy_from_slice(&rows);
+    let row = rule_row(table, recording);
+    tally.judged += 1;
+    tally.held += row[0] as u32;
+    Ok(Judgement {
+        holds: row[0],
+        moments: row.iter().filter(|&&holds| holds).count(),
+        failing: row.iter().position(|&holds| !holds).unwrap_or(row.len()),
+    })
+}
+
+/// The row call: which part of the scratch is the rule's own row.
+pub fn row(table: &[u32], samples: &[u32], start: usize, scratch: &mut [u64]) -> Result<Range<usize>, Refusal> {
+    row_faults(table, samples, start, scratch).first()?;
+    let rows = rows(table, Recording { samples, start });
+    scratch[..rows.len()].copy_from_slice(&rows);
+    Ok(rows.len() - samples.len().div_ceil(64)..rows.len())
+}

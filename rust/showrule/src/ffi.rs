@@ -1,0 +1,66 @@
+//! The C functions of the static library, as `include/showrule.h` declares them. Nothing checks these lines against the library's
+//! source: the tests of this crate and the comparison (`rust/compare`) call every one.
+
+extern "C" {
+    pub fn showrule_check(table: *const u32, words: usize, plain: bool, limit: usize, place: *mut usize) -> u32;
+
+    pub fn showrule_classify(table: *const u32, words: usize, bytes: *mut u8, room: usize, place: *mut usize) -> u32;
+
+    pub fn showrule_plain(
+        table: *const u32,
+        words: usize,
+        result: *mut u32,
+        room: usize,
+        form_words: *mut usize,
+        place: *mut usize,
+    ) -> u32;
+
+    pub fn showrule_normal(
+        table: *const u32,
+        words: usize,
+        result: *mut u32,
+        room: usize,
+        form_words: *mut usize,
+        place: *mut usize,
+    ) -> u32;
+
+    pub fn showrule_form(
+        table: *const u32,
+        words: usize,
+        plain: *mut u32,
+        plain_room: usize,
+        result: *mut u32,
+        room: usize,
+        form_words: *mut usize,
+        place: *mut usize,
+    ) -> u32;
+
+    pub fn showrule_judge(
+        table: *const u32,
+        words: usize,
+        samples: *const u32,
+        count: usize,
+        start: usize,
+        scratch: *mut u64,
+        room: usize,
+        judged: *mut u32,
+        held: *mut u32,
+        holds: *mut bool,
+        moments: *mut usize,
+        failing: *mut usize,
+        place: *mut usize,
+    ) -> u32;
+
+    pub fn showrule_row(
+        table: *const u32,
+        words: usize,
+        samples: *const u32,
+        count: usize,
+        start: usize,
+        scratch: *mut u64,
+        room: usize,
+        from: *mut usize,
+        row_words: *mut usize,
+        place: *mut usize,
+    ) -> u32;
+}

@@ -1,0 +1,234 @@
+//! Show rules for desks: a safe crate over the proved static library.
+//!
+//! A rule is a table of 32-bit words numbered from 1; document 01 says what they mean. Every call takes slices that the caller
+//! lends, allocates nothing, and answers a `Result`: a [`Refusal`] has document 01's number and place, and says in a sentence what
+//! is wrong. What a slice holds after a call, refused or not, is said at each function.
+//!
+//! ```
+//! // G p1: "letter 1, for ever".
+//! let table = [0x3000_0001, 0xE000_0001];
+//! let (mut plain, mut result) = ([0; 130], [0; 4096]);
+//! let form = showrule::form(&table, &mut plain, &mut result)?;
+//! assert_eq!(form.len(), 10);
+//! assert_eq!(form[9], 0x6001_4009);
+//! # Ok::<(), showrule::Refusal>(())
+//! ```
+//!
+//! A damaged table is refused with a sentence:
+//!
+//! ```
+//! let refusal = showrule::check(&[0x2000_0000, 0x7000_0000], false, 64).unwrap_err();
+//! assert_eq!((refusal.number(), refusal.place()), (5, 2));
+//! assert_eq!(refusal.to_string(), "word 2 names no operand: its right field is 0");
+//! ```
+#![warn(missing_docs)]
+
+#[allow(missing_docs)]
+pub mod ffi;
+mod refusal;
+
+use refusal::Call;
+pub use refusal::{Refusal, Side};
+
+/// The most words that a table can have: a field has 14 bits.
+pub const MOST_WORDS: usize = 16_383;
+/// The most words of a written table that goes into the plain-form step.
+pub const MOST_WRITTEN_WORDS: usize = 64;
+/// The most words of a plain table that goes into the normal-form step. A plain form never has more.
+pub const MOST_PLAIN_WORDS: usize = 130;
+/// The most until-like words (kinds 8 to 11) of a plain table that goes into the normal-form step.
+pub const MOST_UNTIL_LIKE: usize = 8;
+/// The most samples of a recording.
+pub const MOST_SAMPLES: usize = 4_096;
+
+/// Judgements so far, and how many of them held at moment 0.
+#[derive(Clone, Copy, PartialEq, Eq, Debug, Default)]
+pub struct Tally {
+    /// Judgements.
+    pub judged: u32,
+    /// Of these, those that held at moment 0.
+    pub held: u32,
+}
+
+/// What a judgement answers.
+#[derive(Clone, Copy, PartialEq, Eq, Debug)]
+pub struct Judgement {
+    /// Whether the rule holds at moment 0.
+    pub holds: bool,
+    /// At how many recorded moments it holds.
+    pub moments: usize,
+    /// The first recorded moment at which it fails, or the number of samples if there is none.
+    pub failing: usize,
+}
+
+/// Checks 1 to 10 of a table: written, or plain (kinds 1 to 11 only), of at most `limit` words. A limit over 16,383 counts for 16,383.
+///
+/// ```
+/// assert!(showrule::check(&[0x3000_0001, 0xE000_0001], false, 64).is_ok());
+/// let refusal = showrule::check(&[0x3000_0001, 0xE000_0001], true, 64).unwrap_err();
+/// assert_eq!(refusal.to_string(), "word 2 is of kind 14, which a plain table does not have: make the plain form first");
+/// ```
+pub fn check(table: &[u32], plain: bool, limit: usize) -> Result<(), Refusal> {
+    let mut place = 0;
+    let number = unsafe { ffi::showrule_check(table.as_ptr(), table.len(), plain, limit, &mut place) };
+    Call { table, limit: limit.min(MOST_WORDS), ..Call::default() }.answer(number, place)
+}
+
+/// The class byte of every word of a plain table, at the front of `bytes`. What stands past them stays. Refused as 12, every byte of
+/// the slice is 0; refused otherwise, it is as it was.
+///
+/// ```
+/// let always_eventually = [0x3000_0001, 0x2000_0000, 0x8000_8001, 0x1000_0000, 0xA001_0003];
+/// let mut bytes = [0; 5];
+/// showrule::classify(&always_eventually, &mut bytes)?;
+/// assert_eq!(bytes[4], 0x60);
+/// # Ok::<(), showrule::Refusal>(())
+/// ```
+pub fn classify(table: &[u32], bytes: &mut [u8]) -> Result<(), Refusal> {
+    let mut place = 0;
+    let number = unsafe { ffi::showrule_classify(table.as_ptr(), table.len(), bytes.as_mut_ptr(), bytes.len(), &mut place) };
+    Call { table, limit: MOST_WORDS, room: bytes.len(), ..Call::default() }.answer(number, place)
+}
+
+/// The plain form of a written table of at most 64 words: the front part of `result`. What stands past it stays. Refused as 12, every
+/// word of the slice is 0; refused otherwise, it is as it was. 130 words are always enough.
+///
+/// ```
+/// let not_finally = [0x3000_0001, 0xD000_0001, 0xC000_0002];
+/// let mut result = [0; 130];
+/// assert_eq!(showrule::plain_form(&not_finally, &mut result)?, [0x1000_0000, 0x4000_0001, 0xA000_4002]);
+/// # Ok::<(), showrule::Refusal>(())
+/// ```
+pub fn plain_form<'a>(table: &[u32], result: &'a mut [u32]) -> Result<&'a [u32], Refusal> {
+    let (mut words, mut place) = (0, 0);
+    let number =
+        unsafe { ffi::showrule_plain(table.as_ptr(), table.len(), result.as_mut_ptr(), result.len(), &mut words, &mut place) };
+    Call { table, limit: MOST_WRITTEN_WORDS, room: result.len(), ..Call::default() }.answer(number, place)?;
+    Ok(&result[..words])
+}
+
+/// The normal form of a plain table of at most 130 words, 8 of them until-like: the front part of `result`. What stands past it
+/// stays. Refused as 12, every word of the slice is 0; refused otherwise, it is as it was.
+///
+/// ```
+/// let finally = [0x2000_0000, 0x3000_0001, 0x8000_4002];
+/// let mut result = [0; 4096];
+/// assert_eq!(showrule::normal_form(&finally, &mut result)?.len(), 8);
+/// # Ok::<(), showrule::Refusal>(())
+/// ```
+pub fn normal_form<'a>(table: &[u32], result: &'a mut [u32]) -> Result<&'a [u32], Refusal> {
+    let (mut words, mut place) = (0, 0);
+    let number =
+        unsafe { ffi::showrule_normal(table.as_ptr(), table.len(), result.as_mut_ptr(), result.len(), &mut words, &mut place) };
+    Call { table, limit: MOST_PLAIN_WORDS, room: result.len(), ..Call::default() }.answer(number, place)?;
+    Ok(&result[..words])
+}
+
+/// The whole way: the plain form of a written table at the front of `plain`, and the normal form of exactly those words, the front
+/// part of `result`. What stands past them stays. Where a form does not fit its slice (12), every word of that slice is 0; where the
+/// plain form is refused, `result` is as it was; after 11 and 12 for `result`, the plain form stands in `plain`.
+///
+/// ```
+/// // Nine until-like words: F p1 and F p2 and .. and F p9.
+/// let mut table: Vec<u32> = (1..=9).map(|n| 0x3000_0000 + n).collect();
+/// table.extend((1..=9).map(|n| 0xD000_0000 + n));
+/// table.push(0x5000_0000 + (10 << 14) + 11);
+/// table.extend((12..=18).map(|n| 0x5000_0000 + ((n + 7) << 14) + n));
+/// let (mut plain, mut result) = ([0; 130], [0; 4096]);
+/// let refusal = showrule::form(&table, &mut plain, &mut result).unwrap_err();
+/// assert_eq!(refusal.number(), 11);
+/// assert!(refusal.to_string().contains("of the plain form is the ninth until-like word"));
+/// ```
+pub fn form<'a>(table: &[u32], plain: &mut [u32], result: &'a mut [u32]) -> Result<&'a [u32], Refusal> {
+    let (mut words, mut place) = (0, 0);
+    let number = unsafe {
+        ffi::showrule_form(
+            table.as_ptr(),
+            table.len(),
+            plain.as_mut_ptr(),
+            plain.len(),
+            result.as_mut_ptr(),
+            result.len(),
+            &mut words,
+            &mut place,
+        )
+    };
+    // a plain form that was made has no word 0
+    let plain_made = plain.first().is_some_and(|&word| word != 0);
+    let room = if plain_made { result.len() } else { plain.len() };
+    Call { table, limit: MOST_WRITTEN_WORDS, room, of_plain_form: true, ..Call::default() }.answer(number, place)?;
+    Ok(&result[..words])
+}
+
+/// How many 64-bit words of scratch a table of so many words needs for a recording of so many samples.
+pub fn scratch_words(words: usize, samples: usize) -> usize {
+    words * samples.div_ceil(64)
+}
+
+/// Judges a rule over a recording whose samples from `start` on repeat for ever. The rows of all words stand at the start of the
+/// scratch, and the tally counts the judgement. A refusal changes neither.
+///
+/// ```
+/// let always = [0x3000_0001, 0xE000_0001];
+/// let mut scratch = [0; 2];
+/// let mut tally = showrule::Tally::default();
+/// let judgement = showrule::judge(&always, &[0, 1], 1, &mut scratch, &mut tally)?;
+/// assert_eq!((judgement.holds, judgement.moments, judgement.failing), (false, 1, 0));
+/// assert_eq!((tally.judged, tally.held), (1, 0));
+/// # Ok::<(), showrule::Refusal>(())
+/// ```
+pub fn judge(table: &[u32], samples: &[u32], start: usize, scratch: &mut [u64], tally: &mut Tally) -> Result<Judgement, Refusal> {
+    let before = *tally;
+    let (mut holds, mut moments, mut failing, mut place) = (false, 0, 0, 0);
+    let number = unsafe {
+        ffi::showrule_judge(
+            table.as_ptr(),
+            table.len(),
+            samples.as_ptr(),
+            samples.len(),
+            start,
+            scratch.as_mut_ptr(),
+            scratch.len(),
+            &mut tally.judged,
+            &mut tally.held,
+            &mut holds,
+            &mut moments,
+            &mut failing,
+            &mut place,
+        )
+    };
+    let call =
+        Call { table, limit: MOST_WORDS, room: scratch.len(), samples: samples.len(), start, tally: before, ..Call::default() };
+    call.answer(number, place)?;
+    Ok(Judgement { holds, moments, failing })
+}
+
+/// The row call: the rule's own row, a part of the scratch and no copy. Moment i is bit (i mod 64) of the part's word i / 64. It takes
+/// no tally, and makes the same checks and rows as [`judge`] otherwise. A refusal changes nothing.
+///
+/// ```
+/// let finally = [0x3000_0001, 0xD000_0001];
+/// let mut scratch = [0; 2];
+/// assert_eq!(showrule::row(&finally, &[1, 0], 1, &mut scratch)?, [0b01]);
+/// # Ok::<(), showrule::Refusal>(())
+/// ```
+pub fn row<'a>(table: &[u32], samples: &[u32], start: usize, scratch: &'a mut [u64]) -> Result<&'a mut [u64], Refusal> {
+    let (mut from, mut row_words, mut place) = (0, 0, 0);
+    let number = unsafe {
+        ffi::showrule_row(
+            table.as_ptr(),
+            table.len(),
+            samples.as_ptr(),
+            samples.len(),
+            start,
+            scratch.as_mut_ptr(),
+            scratch.len(),
+            &mut from,
+            &mut row_words,
+            &mut place,
+        )
+    };
+    let call = Call { table, limit: MOST_WORDS, room: scratch.len(), samples: samples.len(), start, ..Call::default() };
+    call.answer(number, place)?;
+    Ok(&mut scratch[from..from + row_words])
+}

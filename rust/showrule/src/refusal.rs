@@ -1,0 +1,241 @@
+//! Why a call is refused: document 01's number and place, and a sentence that says what to look at.
+use crate::{scratch_words, Tally, MOST_SAMPLES, MOST_UNTIL_LIKE};
+use std::fmt;
+
+/// A field of a word.
+#[derive(Clone, Copy, PartialEq, Eq, Debug)]
+pub enum Side {
+    /// The 14 bits below the kind.
+    Left,
+    /// The low 14 bits.
+    Right,
+}
+
+/// Why a call is refused. The cases are those of document 01's check table; [`Refusal::number`] and [`Refusal::place`] are its two
+/// numbers, and the text (`to_string`) says what to look at.
+#[derive(Clone, Copy, PartialEq, Eq, Debug)]
+#[non_exhaustive]
+#[allow(missing_docs)]
+pub enum Refusal {
+    NoWord,
+    TooManyWords {
+        words: usize,
+        limit: usize,
+    },
+    KindZero {
+        place: usize,
+    },
+    NotPlain {
+        place: usize,
+        kind: u32,
+    },
+    OperandZero {
+        place: usize,
+        side: Side,
+    },
+    OperandNotEarlier {
+        place: usize,
+        side: Side,
+        operand: u32,
+    },
+    LetterOutOfRange {
+        place: usize,
+        letter: u32,
+    },
+    FieldNotZero {
+        place: usize,
+        side: Side,
+        value: u32,
+    },
+    Repeated {
+        place: usize,
+        earlier: usize,
+    },
+    Unused {
+        place: usize,
+    },
+    TooManyUntilLike {
+        place: usize,
+        of_plain_form: bool,
+    },
+    ResultTooShort {
+        room: usize,
+    },
+    NoSample,
+    TooManySamples {
+        samples: usize,
+    },
+    LoopStartOutside {
+        start: usize,
+        samples: usize,
+    },
+    ScratchTooShort {
+        room: usize,
+        needed: usize,
+    },
+    TallyFull {
+        judged: u32,
+        held: u32,
+    },
+    /// A number that this crate does not know.
+    Other {
+        number: u32,
+        place: usize,
+    },
+}
+
+/// What a call was handed, as far as a refusal can speak of it.
+#[derive(Clone, Copy, Default)]
+pub(crate) struct Call<'a> {
+    pub table: &'a [u32],
+    pub limit: usize,
+    pub room: usize,
+    pub samples: usize,
+    pub start: usize,
+    pub tally: Tally,
+    pub of_plain_form: bool,
+}
+
+impl Call<'_> {
+    /// The library's number and place as a result.
+    pub fn answer(self, number: u32, place: usize) -> Result<(), Refusal> {
+        if number == 0 {
+            return Ok(());
+        }
+        Err(self.refusal(number, place))
+    }
+
+    fn refusal(self, number: u32, place: usize) -> Refusal {
+        let word = place.checked_sub(1).and_then(|i| self.table.get(i)).copied().unwrap_or(0);
+        let kind = word >> 28;
+        let (left, right) = (word >> 14 & 0x3FFF, word & 0x3FFF);
+        let two_sided = matches!(kind, 5 | 6 | 8..=11 | 15);
+        match number {
+            1 => Refusal::NoWord,
+            2 => Refusal::TooManyWords { words: self.table.len(), limit: self.limit },
+            3 => Refusal::KindZero { place },
+            4 => Refusal::NotPlain { place, kind },
+            5 => Refusal::OperandZero { place, side: if two_sided && left == 0 { Side::Left } else { Side::Right } },
+            6 if two_sided && left as usize >= place => Refusal::OperandNotEarlier { place, side: Side::Left, operand: left },
+            6 => Refusal::OperandNotEarlier { place, side: Side::Right, operand: right },
+            7 => Refusal::LetterOutOfRange { place, letter: right },
+            8 if left != 0 => Refusal::FieldNotZero { place, side: Side::Left, value: left },
+            8 => Refusal::FieldNotZero { place, side: Side::Right, value: right },
+            9 => Refusal::Repeated { place, earlier: self.table.iter().position(|&w| w == word).map_or(0, |i| i + 1) },
+            10 => Refusal::Unused { place },
+            11 => Refusal::TooManyUntilLike { place, of_plain_form: self.of_plain_form },
+            12 => Refusal::ResultTooShort { room: self.room },
+            13 => Refusal::NoSample,
+            14 => Refusal::TooManySamples { samples: self.samples },
+            15 => Refusal::LoopStartOutside { start: self.start, samples: self.samples },
+            16 => Refusal::ScratchTooShort { room: self.room, needed: scratch_words(self.table.len(), self.samples) },
+            17 => Refusal::TallyFull { judged: self.tally.judged, held: self.tally.held },
+            _ => Refusal::Other { number, place },
+        }
+    }
+}
+
+impl Refusal {
+    /// Document 01's number.
+    pub fn number(&self) -> u32 {
+        match *self {
+            Refusal::NoWord => 1,
+            Refusal::TooManyWords { .. } => 2,
+            Refusal::KindZero { .. } => 3,
+            Refusal::NotPlain { .. } => 4,
+            Refusal::OperandZero { .. } => 5,
+            Refusal::OperandNotEarlier { .. } => 6,
+            Refusal::LetterOutOfRange { .. } => 7,
+            Refusal::FieldNotZero { .. } => 8,
+            Refusal::Repeated { .. } => 9,
+            Refusal::Unused { .. } => 10,
+            Refusal::TooManyUntilLike { .. } => 11,
+            Refusal::ResultTooShort { .. } => 12,
+            Refusal::NoSample => 13,
+            Refusal::TooManySamples { .. } => 14,
+            Refusal::LoopStartOutside { .. } => 15,
+            Refusal::ScratchTooShort { .. } => 16,
+            Refusal::TallyFull { .. } => 17,
+            Refusal::Other { number, .. } => number,
+        }
+    }
+
+    /// The number of the faulty word for 3 to 11, and 0 otherwise.
+    pub fn place(&self) -> usize {
+        match *self {
+            Refusal::KindZero { place }
+            | Refusal::NotPlain { place, .. }
+            | Refusal::OperandZero { place, .. }
+            | Refusal::OperandNotEarlier { place, .. }
+            | Refusal::LetterOutOfRange { place, .. }
+            | Refusal::FieldNotZero { place, .. }
+            | Refusal::Repeated { place, .. }
+            | Refusal::Unused { place }
+            | Refusal::TooManyUntilLike { place, .. }
+            | Refusal::Other { place, .. } => place,
+            _ => 0,
+        }
+    }
+}
+
+impl fmt::Display for Side {
+    fn fmt(&self, f: &mut fmt::Formatter) -> fmt::Result {
+        f.write_str(match self {
+            Side::Left => "left",
+            Side::Right => "right",
+        })
+    }
+}
+
+impl fmt::Display for Refusal {
+    fn fmt(&self, f: &mut fmt::Formatter) -> fmt::Result {
+        match *self {
+            Refusal::NoWord => write!(f, "the table has no word: a rule has at least one"),
+            Refusal::TooManyWords { words, limit } => {
+                write!(f, "the table has {words} words, and this step takes at most {limit}: make the rule shorter")
+            }
+            Refusal::KindZero { place } => write!(f, "word {place} is of kind 0, which means nothing: its top 4 bits are 0"),
+            Refusal::NotPlain { place, kind } => {
+                write!(f, "word {place} is of kind {kind}, which a plain table does not have: make the plain form first")
+            }
+            Refusal::OperandZero { place, side } => write!(f, "word {place} names no operand: its {side} field is 0"),
+            Refusal::OperandNotEarlier { place, side, operand } => {
+                write!(f, "word {place} uses word {operand} ({side} field), and an operand is an earlier word")
+            }
+            Refusal::LetterOutOfRange { place, letter } => {
+                write!(f, "word {place} names letter {letter}, and letters are 1 to 32")
+            }
+            Refusal::FieldNotZero { place, side, value } => {
+                write!(f, "word {place} has {value} in its {side} field, which is 0 in a word of its kind")
+            }
+            Refusal::Repeated { place, earlier } => {
+                write!(f, "word {place} is the same as word {earlier}: use word {earlier} in its place")
+            }
+            Refusal::Unused { place } => {
+                write!(f, "word {place} is used by no other word and is not the last: use it, or leave it out")
+            }
+            Refusal::TooManyUntilLike { place, of_plain_form } => {
+                let of = if of_plain_form { " of the plain form" } else { "" };
+                write!(f, "word {place}{of} is the ninth until-like word, and a rule may have {MOST_UNTIL_LIKE}: split the rule")
+            }
+            Refusal::ResultTooShort { room } => write!(f, "the result does not fit the slice of {room} that was lent for it"),
+            Refusal::NoSample => write!(f, "the recording has no sample"),
+            Refusal::TooManySamples { samples } => {
+                write!(f, "the recording has {samples} samples, and at most {MOST_SAMPLES} are judged")
+            }
+            Refusal::LoopStartOutside { start, samples } => {
+                write!(f, "the loop starts at moment {start}, and the recording's moments are 0 to {}", samples.wrapping_sub(1))
+            }
+            Refusal::ScratchTooShort { room, needed } => {
+                write!(f, "the scratch has {room} words of 64 bits, and the rows need {needed}")
+            }
+            Refusal::TallyFull { judged, held } if held > judged => {
+                write!(f, "the tally has {held} held of {judged} judged: it is damaged")
+            }
+            Refusal::TallyFull { judged, .. } => write!(f, "the tally is full: {judged} judgements are counted"),
+            Refusal::Other { number, place } => write!(f, "refused {number} at {place}"),
+        }
+    }
+}
+
+impl std::error::Error for Refusal {}

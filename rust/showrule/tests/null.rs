@@ -1,0 +1,40 @@
+//! A null pointer with length 0 is an empty slice: to every C function, for every slice.
+use showrule::ffi::*;
+use std::ptr::{null, null_mut};
+
+#[test]
+fn empty_slices() {
+    let (mut words, mut place, mut from) = (9, 9, 9);
+    let (mut judged, mut held, mut holds, mut moments, mut failing) = (5, 3, true, 9, 9);
+    let letter = [0x3000_0001u32];
+    unsafe {
+        assert_eq!((showrule_check(null(), 0, false, 64, &mut place), place), (1, 0));
+        assert_eq!(showrule_classify(null(), 0, null_mut(), 0, &mut place), 1);
+        assert_eq!(showrule_classify(letter.as_ptr(), 1, null_mut(), 0, &mut place), 12);
+        assert_eq!(showrule_plain(null(), 0, null_mut(), 0, &mut words, &mut place), 1);
+        assert_eq!(showrule_plain(letter.as_ptr(), 1, null_mut(), 0, &mut words, &mut place), 12);
+        assert_eq!(showrule_normal(letter.as_ptr(), 1, null_mut(), 0, &mut words, &mut place), 12);
+        assert_eq!(showrule_form(letter.as_ptr(), 1, null_mut(), 0, null_mut(), 0, &mut words, &mut place), 12);
+        let mut plain = [0u32; 1];
+        assert_eq!(showrule_form(letter.as_ptr(), 1, plain.as_mut_ptr(), 1, null_mut(), 0, &mut words, &mut place), 12);
+        assert_eq!((plain, words, place), (letter, 0, 0));
+        let number = showrule_judge(
+            letter.as_ptr(),
+            1,
+            null(),
+            0,
+            0,
+            null_mut(),
+            0,
+            &mut judged,
+            &mut held,
+            &mut holds,
+            &mut moments,
+            &mut failing,
+            &mut place,
+        );
+        assert_eq!((number, judged, held, holds, moments, failing), (13, 5, 3, false, 0, 0));
+        let number = showrule_row(letter.as_ptr(), 1, letter.as_ptr(), 1, 0, null_mut(), 0, &mut from, &mut words, &mut place);
+        assert_eq!((number, from, words), (16, 0, 0));
+    }
+}

@@ -1,0 +1,64 @@
+//! Every refusal of document 01's check table: its number, its place and its sentence.
+use showrule::{check, classify, form, judge, normal_form, plain_form, row, Refusal, Tally};
+
+fn is<T: std::fmt::Debug>(answer: Result<T, Refusal>, number: u32, place: usize, sentence: &str) {
+    let refusal = answer.expect_err("it is refused");
+    assert_eq!((refusal.number(), refusal.place(), refusal.to_string().as_str()), (number, place, sentence));
+}
+
+const ALWAYS: [u32; 2] = [0x3000_0001, 0xE000_0001];
+
+#[test]
+fn tables() {
+    let check = |table: &[u32]| check(table, false, 64);
+    is(check(&[]), 1, 0, "the table has no word: a rule has at least one");
+    is(check(&[0; 65]), 2, 0, "the table has 65 words, and this step takes at most 64: make the rule shorter");
+    is(check(&[0]), 3, 1, "word 1 is of kind 0, which means nothing: its top 4 bits are 0");
+    is(check(&[0x2000_0000, 0x7000_0000]), 5, 2, "word 2 names no operand: its right field is 0");
+    is(check(&[0x2000_0000, 0x8000_0001]), 5, 2, "word 2 names no operand: its left field is 0");
+    is(check(&[0x2000_0000, 0x8000_4000]), 5, 2, "word 2 names no operand: its right field is 0");
+    is(check(&[0x7000_0001]), 6, 1, "word 1 uses word 1 (right field), and an operand is an earlier word");
+    is(check(&[0x2000_0000, 0x8000_C001]), 6, 2, "word 2 uses word 3 (left field), and an operand is an earlier word");
+    is(check(&[0x3000_0021]), 7, 1, "word 1 names letter 33, and letters are 1 to 32");
+    is(check(&[0x3000_4001]), 8, 1, "word 1 has 1 in its left field, which is 0 in a word of its kind");
+    is(check(&[0x2000_0007]), 8, 1, "word 1 has 7 in its right field, which is 0 in a word of its kind");
+    is(check(&[0x3000_0001, 0x3000_0001]), 9, 2, "word 2 is the same as word 1: use word 1 in its place");
+    is(check(&[0x3000_0001, 0x3000_0002]), 10, 1, "word 1 is used by no other word and is not the last: use it, or leave it out");
+}
+
+#[test]
+fn forms() {
+    is(
+        normal_form(&ALWAYS, &mut [0; 9]),
+        4,
+        2,
+        "word 2 is of kind 14, which a plain table does not have: make the plain form first",
+    );
+    is(classify(&[0x3000_0001], &mut []), 12, 0, "the result does not fit the slice of 0 that was lent for it");
+    is(plain_form(&ALWAYS, &mut [7; 2]), 12, 0, "the result does not fit the slice of 2 that was lent for it");
+    is(form(&ALWAYS, &mut [7; 2], &mut [7; 20]), 12, 0, "the result does not fit the slice of 2 that was lent for it");
+    is(form(&ALWAYS, &mut [7; 3], &mut [7; 9]), 12, 0, "the result does not fit the slice of 9 that was lent for it");
+    let mut nine = vec![0x3000_0001, 0x3000_0002];
+    nine.extend((1..=9).map(|n| 0x8000_0000 + ((if n == 1 { 1 } else { n + 1 }) << 14) + 2));
+    is(normal_form(&nine, &mut [0; 9]), 11, 11, "word 11 is the ninth until-like word, and a rule may have 8: split the rule");
+    is(
+        form(&nine, &mut [0; 130], &mut [0; 9]),
+        11,
+        11,
+        "word 11 of the plain form is the ninth until-like word, and a rule may have 8: split the rule",
+    );
+}
+
+#[test]
+fn recordings() {
+    let mut tally = Tally { judged: 3, held: 2 };
+    is(judge(&ALWAYS, &[], 0, &mut [], &mut tally), 13, 0, "the recording has no sample");
+    is(row(&ALWAYS, &[0; 4097], 0, &mut []), 14, 0, "the recording has 4097 samples, and at most 4096 are judged");
+    is(row(&ALWAYS, &[0; 3], 3, &mut []), 15, 0, "the loop starts at moment 3, and the recording's moments are 0 to 2");
+    is(row(&ALWAYS, &[0; 65], 3, &mut [0; 3]), 16, 0, "the scratch has 3 words of 64 bits, and the rows need 4");
+    assert_eq!(tally, Tally { judged: 3, held: 2 });
+    let mut full = Tally { judged: u32::MAX, held: 2 };
+    is(judge(&ALWAYS, &[0], 0, &mut [0; 2], &mut full), 17, 0, "the tally is full: 4294967295 judgements are counted");
+    let mut damaged = Tally { judged: 1, held: 2 };
+    is(judge(&ALWAYS, &[0], 0, &mut [0; 2], &mut damaged), 17, 0, "the tally has 2 held of 1 judged: it is damaged");
+}

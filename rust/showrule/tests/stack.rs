@@ -1,0 +1,50 @@
+//! A thread with 512 KB of stack is enough for every call, as include/showrule.h says: the longest tables, the deepest ones, and
+//! eight until-like words.
+use showrule::*;
+
+fn on_small_stack(work: impl FnOnce() + Send + 'static) {
+    std::thread::Builder::new().stack_size(512 << 10).spawn(work).expect("a thread").join().expect("it ends well");
+}
+
+/// Letter 1, then a word over the one before, and itself where it has two operands.
+fn chain(words: u32, kind: u32) -> Vec<u32> {
+    let both = matches!(kind, 5 | 6 | 8..=11 | 15) as u32;
+    (0..words).map(|n| if n == 0 { 0x3000_0001 } else { (kind << 28) + both * (n << 14) + n }).collect()
+}
+
+#[test]
+fn longest_tables() {
+    let table = chain(16_383, 7);
+    let samples = vec![1; 4_096];
+    let (mut bytes, mut scratch) = (vec![0; 16_383], vec![0; scratch_words(16_383, 4_096)]);
+    on_small_stack(move || {
+        check(&table, true, MOST_WORDS).unwrap();
+        classify(&table, &mut bytes).unwrap();
+        assert!(judge(&table, &samples, 4_095, &mut scratch, &mut Tally::default()).unwrap().holds);
+        assert_eq!(row(&table, &samples, 0, &mut scratch).unwrap().len(), 64);
+    });
+}
+
+#[test]
+fn deepest_rules() {
+    for kind in [5, 7, 12, 15] {
+        let table = chain(64, kind);
+        let (mut plain, mut result) = (vec![0; 130], vec![0; 16_383]);
+        on_small_stack(move || {
+            form(&table, &mut plain, &mut result).unwrap();
+        });
+    }
+}
+
+#[test]
+fn eight_until_like_words_under_a_deep_rule() {
+    for kind in [8, 9, 10, 11] {
+        let mut table = chain(9, kind);
+        table.extend((9..130).map(|n| 0x7000_0000 + n));
+        let mut result = vec![0; 16_383];
+        on_small_stack(move || match normal_form(&table, &mut result) {
+            Ok(form) => assert!(form.len() > 130),
+            Err(refusal) => assert_eq!(refusal.number(), 12),
+        });
+    }
+}
