@@ -3,7 +3,7 @@
 use crate::hashmap::Refused;
 use crate::rules::{word, Rule};
 use crate::shapes::{mixed, recording, Numbers, PLAIN, WRITTEN};
-use crate::{hashmap, library, moments};
+use crate::{hashmap, library, moments, typed};
 use std::collections::BTreeMap;
 use std::fmt::Debug;
 
@@ -88,6 +88,14 @@ fn judges(seen: &mut Seen, numbers: &mut Numbers) {
     }
 }
 
+fn texts(seen: &mut Seen, numbers: &mut Numbers) {
+    if library::TEXTS {
+        let text = typed::damaged(numbers);
+        let room = [0, 1 + numbers.next(20), 64, 70][numbers.next(4)];
+        slices(seen, room, |s| library::text(&text, s), |s| typed::read(&text, s));
+    }
+}
+
 pub fn all(rules: &[Rule]) -> Seen {
     let (mut seen, mut numbers) = (Seen::new(), Numbers(3));
     for rule in rules {
@@ -98,6 +106,7 @@ pub fn all(rules: &[Rule]) -> Seen {
     for turn in 0..1500 {
         checks(&mut seen, &mut numbers, if turn % 50 == 0 { 16400 } else { 140 });
         judges(&mut seen, &mut numbers);
+        texts(&mut seen, &mut numbers);
         let (n, m) = (1 + numbers.next(if turn % 20 == 0 { 70 } else { 20 }), 1 + numbers.next(if turn % 20 == 0 { 140 } else { 20 }));
         let (written, plain) = (damaged(&mut numbers, mixed(n, &WRITTEN)), damaged(&mut numbers, mixed(m, &PLAIN)));
         forms(&mut seen, &mut numbers, &written, &plain);

@@ -8,6 +8,7 @@ mod rules;
 mod shapes;
 mod stack;
 mod timing;
+mod typed;
 
 use rules::Rule;
 use shapes::{mixed, noise, over_letters, recording, PLAIN, WRITTEN};
@@ -22,9 +23,10 @@ fn main() {
     println!("each figure the least of {} rounds after a warm-up; slices are lent again, not cleared between", timing::ROUNDS);
     let asked: Vec<String> = std::env::args().skip(1).collect();
     let rules = || rules::read(include_str!("rules.txt"));
-    let sections: [(&str, &str, &dyn Fn()); 6] = [
+    let sections: [(&str, &str, &dyn Fn()); 7] = [
         ("same", "the same replies and slices", &|| println!("calls by their reply, 0 for accepted: {:?}", agree::all(&rules()))),
         ("check", "check and plain form, beside the hash-map program", &short_steps),
+        ("text", "reading texts, beside the hash-map program", &texts),
         ("form", "whole way and normal form, beside the hash-map program", &|| forms(rules())),
         ("judge", "the judge", &judges),
         ("growth", "how cost grows", &growth),
@@ -70,6 +72,26 @@ fn plain_forms() {
         let theirs = || hashmap::plain_form(black_box(&table), &mut result2);
         let (o, t) = pair(ours, theirs);
         println!("plain form, {n} words: hash map {:.2} us, here {:.2} us, ratio {:.2}", t / 1e3, o / 1e3, o / t);
+    }
+}
+
+fn texts() {
+    if !library::TEXTS {
+        return println!("the library has no C name for reading texts");
+    }
+    for (what, text) in typed::texts() {
+        let (mut result, mut result2) = (vec![0; 64], vec![0; 64]);
+        let reply = library::text(text.as_bytes(), &mut result);
+        assert_eq!(reply, typed::read(text.as_bytes(), &mut result2));
+        let to = reply.map_or_else(|(number, place)| format!("{number} at {place}"), |words| format!("{words} words"));
+        let ours = || library::text(black_box(text.as_bytes()), &mut result);
+        let theirs = || typed::read(black_box(text.as_bytes()), &mut result2);
+        let (o, t) = pair(ours, theirs);
+        let bytes = text.len() as f64;
+        println!(
+            "text, {bytes} bytes, {what}, to {to}: hash map {:.1} ns a byte, here {:.1} ns a byte ({o:.0} ns), ratio {:.2}",
+            t / bytes, o / bytes, o / t
+        );
     }
 }
 
@@ -223,6 +245,10 @@ fn stacks() {
     for n in [1, 64] {
         let table = shapes::deep(n, 0);
         println!("plain form, {n} words: {}", stack::bytes(|| library::plain_form(&table, &mut vec![0; PLAIN_ROOM]).unwrap()));
+    }
+    if library::TEXTS {
+        let read = |text: &str| stack::bytes(|| library::text(text.as_bytes(), &mut vec![0; 64]));
+        println!("text, the most of the texts of section text: {}", typed::texts().iter().map(|(_, text)| read(text)).max().unwrap());
     }
     if !library::FORMS {
         return;

@@ -115,18 +115,18 @@ pub fn classify(table: &[u32], bytes: &mut [u8]) -> Result<(), Refused> {
 }
 
 // Words listed as first needed, an identical word used again, in so much room.
-struct Numbering {
-    words: Vec<u32>,
+pub struct Numbering {
+    pub words: Vec<u32>,
     numbers: HashMap<u32, u32>,
     room: usize,
 }
 
 impl Numbering {
-    fn new(room: usize) -> Numbering {
+    pub fn new(room: usize) -> Numbering {
         Numbering { words: Vec::new(), numbers: HashMap::new(), room: room.min(16383) }
     }
 
-    fn put(&mut self, kind: u32, left: u32, right: u32) -> Result<u32, Refused> {
+    pub fn put(&mut self, kind: u32, left: u32, right: u32) -> Result<u32, Refused> {
         let w = kind << 28 | left << 14 | right;
         if let Some(&n) = self.numbers.get(&w) {
             return Ok(n);
@@ -142,7 +142,7 @@ impl Numbering {
 }
 
 // The form's words at the front of the result, or a result of zeros where they don't fit.
-fn hand_over(form: Result<Vec<u32>, Refused>, result: &mut [u32]) -> Result<usize, Refused> {
+pub fn hand_over(form: Result<Vec<u32>, Refused>, result: &mut [u32]) -> Result<usize, Refused> {
     match form {
         Ok(words) => {
             result[..words.len()].copy_from_slice(&words);

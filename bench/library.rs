@@ -20,8 +20,14 @@ extern "C" {
     ) -> u32;
 }
 
-// Whether the library has C names for the normal form and the whole way.
+#[cfg(texts)]
+extern "C" {
+    fn showrule_text(text: *const u8, bytes: usize, result: *mut u32, room: usize, table: *mut usize, place: *mut usize) -> u32;
+}
+
+// Whether the library has C names for the normal form and the whole way, and one for reading texts.
 pub const FORMS: bool = cfg!(forms);
+pub const TEXTS: bool = cfg!(texts);
 
 fn reply<T>(number: u32, place: usize, answer: T) -> Result<T, Refused> {
     if number == 0 { Ok(answer) } else { Err((number, place)) }
@@ -72,6 +78,18 @@ pub fn normal_form(_: &[u32], _: &mut [u32]) -> Result<usize, Refused> {
 #[cfg(not(forms))]
 pub fn rule_form(_: &[u32], _: &mut [u32], _: &mut [u32]) -> Result<usize, Refused> {
     unreachable!("the library has no C name for the whole way")
+}
+
+#[cfg(texts)]
+pub fn text(text: &[u8], result: &mut [u32]) -> Result<usize, Refused> {
+    let (mut table, mut place) = (0, 0);
+    let number = unsafe { showrule_text(text.as_ptr(), text.len(), result.as_mut_ptr(), result.len(), &mut table, &mut place) };
+    reply(number, place, table)
+}
+
+#[cfg(not(texts))]
+pub fn text(_: &[u8], _: &mut [u32]) -> Result<usize, Refused> {
+    unreachable!("the library has no C name for reading texts")
 }
 
 // Whether the rule holds at moment 0, at how many moments, and the first failing moment. The tally goes in as zeros.

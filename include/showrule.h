@@ -2,8 +2,9 @@
  *
  * A rule is a table of 32-bit words numbered from 1; document 01 says what they mean. Every function takes any numbers and any words,
  * and answers 0 when the call is accepted, or the number of the refusal, the first of document 01's check table that applies. The
- * place is then the number of the faulty word for 3 to 11, and 0 otherwise; accepted, it is 0. No function allocates, keeps a pointer,
- * reads or writes a file, or ends the program. They may run on several threads at once, on memory that no other call writes.
+ * place is then the number of the faulty word for 3 to 11, that of a byte of the text for 19, and 0 otherwise; accepted, it is 0. No
+ * function allocates, keeps a pointer, reads or writes a file, or ends the program. They may run on several threads at once, on memory
+ * that no other call writes.
  *
  * What a caller keeps to; nothing checks it:
  *   - A slice is a pointer and then its length, in elements, not in bytes. It is memory of the caller, aligned for its element, that
@@ -45,13 +46,16 @@ enum {
     SHOWRULE_TOO_MANY_SAMPLES = 14,    /* it has over 4,096 */
     SHOWRULE_LOOP_START_OUTSIDE = 15,  /* the loop start is not below the number of samples */
     SHOWRULE_SCRATCH_TOO_SHORT = 16,   /* the scratch is shorter than the rows */
-    SHOWRULE_TALLY_FULL = 17           /* judged is 4,294,967,295, or held exceeds judged */
+    SHOWRULE_TALLY_FULL = 17,          /* judged is 4,294,967,295, or held exceeds judged */
+    SHOWRULE_NOT_GRAMMAR = 19,         /* the text departs from the grammar; the place is the byte at which it does */
+    SHOWRULE_TEXT_TOO_LONG = 20        /* the text has over 1,024 bytes */
 };
 
 /* The most of each that a call takes. */
 enum {
+    SHOWRULE_MOST_BYTES = 1024,       /* bytes of a text, for text */
     SHOWRULE_MOST_WORDS = 16383,      /* words of a table, for check, class, judge and row */
-    SHOWRULE_MOST_WRITTEN = 64,       /* words of a written table, for plain and form */
+    SHOWRULE_MOST_WRITTEN = 64,       /* words of a written table, for plain and form; text makes no longer one */
     SHOWRULE_MOST_PLAIN = 130,        /* words of a plain table, for normal; no plain form is longer */
     SHOWRULE_MOST_UNTIL_LIKE = 8,     /* until-like words of a plain table, for normal and form */
     SHOWRULE_MOST_SAMPLES = 4096      /* samples of a recording */
@@ -68,6 +72,19 @@ uint32_t showrule_check(const uint32_t *table, size_t words, bool plain, size_t 
  * class bytes in the order of the words, and later bytes stay. Refused by 12, every byte of the slice is 0; refused otherwise, it is
  * as it was. Bit 0 is class zero, 1 Sigma-1, 2 Pi-1, 3 Delta-1, 4 Sigma-2, 5 Pi-2, 6 Delta-2; bit 7 is 0. */
 uint32_t showrule_classify(const uint32_t *table, size_t words, uint8_t *bytes, size_t room, size_t *place);
+
+/* The written table of a rule typed as text: true, false, p1 to p32, the prefixes ! X F G, and the two-sided & | -> U W R M, always with
+ * their two operands in round brackets; spaces (byte 32) may stand round these symbols, and nothing else, so that no final line end and
+ * no final 0 is part of a text. Refusals, the first of them that applies:
+ *   20  over 1,024 bytes.
+ *   19  no rule of the grammar; the place is the first byte, counted from 1, after which no continuation could help, or bytes + 1 where
+ *       the text ends early.
+ *   2   the table has over 64 words.
+ *   12  it is longer than the result.
+ * Accepted, *table_words is its length, its words, numbered by first need with sharing, are the first of the result, and later words
+ * stay; 64 words are always enough. Refused by 12, every word of the result is 0; refused otherwise, it is as it was. Refused,
+ * *table_words is 0. */
+uint32_t showrule_text(const uint8_t *text, size_t bytes, uint32_t *result, size_t room, size_t *table_words, size_t *place);
 
 /* The plain form of a written table of at most 64 words, checks 1 to 10 and 12. Accepted, *form_words is its length, its words are the
  * first of the result, and later words stay; 130 words are always enough. Refused by 12, every word of the result is 0; refused

@@ -8,6 +8,7 @@ ghost use Rattle.table.specs.Limits.{desk};
 ghost use Rattle.table.specs.Checks.{checked};
 ghost use Rattle.rows.specs.Row.{rowWords};
 ghost use Rattle.table.specs.Frame.{classStep, plainStep, normalStep, outcomeOf, answerOf, resultOf};
+ghost use Rattle.text.specs.Text.{textStep};
 ghost use Rattle.pipeline.specs.Whole.{wholeAnswer, wholeResult};
 ghost use Rattle.evaluation.specs.Judging.{judgeOutcome, rowOutcome, scratchAfter};
 ghost use Rattle.evaluation.specs.Judging.{reply as judgeReply};
@@ -56,6 +57,22 @@ fn form_reply(a: Answer, words: &mut usize, place: &mut usize) -> u32
     *words = answer::words_of(a);
     *place = report.1;
     report.0
+}
+
+// The table of a rule typed as text, at the front of the result.
+#[no_mangle]
+pub extern "C" fn showrule_text(
+    text: &[u8],
+    result: &mut [u32],
+    words: &mut usize,
+    place: &mut usize,
+) -> u32
+    ensures { λ r. ⌜ FormReply
+        (answerOf (textStep desk) (now (text .entry)) (length (now (result .entry))))
+        r (now (words .exit)) (now (place .exit)) ⌝ }
+    ensures { λ r. ⌜ now (result .exit) ≡ resultOf (textStep desk) (now (text .entry)) (now (result .entry)) ⌝ }
+{
+    form_reply(text::read(text, result), words, place)
 }
 
 // The plain form of a written table, at the front of the result.

@@ -1,9 +1,9 @@
 // The runner's input: words, and the tables and recordings that a case is about.
 
-// A case in words, in this order: the step (1 check, 2 class, 3 plain form, 4 normal form, 5 whole way, 6 judge, 7 row call); how many words
-// of a chain the table starts with, and how many are listed after it; the number of a word that is replaced (0: none), and the word;
+// A case in words, in this order: the step (1 check, 2 class, 3 plain form, 4 normal form, 5 whole way, 6 judge, 7 row call, 8 text); how
+// many words of a chain the table starts with, and how many are listed after it; the number of a word that is replaced (0: none), and the word;
 // the rooms of the lent slices; whether plain tables only, and the limit, of the check; the number of samples, the loop start, the tally, and
-// the seed of the samples (0: they are listed). The listed words follow, then the listed samples.
+// the seed of the samples (0: they are listed). The listed words follow, of a text a byte a word, then the listed samples.
 pub struct Case {
     pub step: u32,
     pub chain: usize,
@@ -58,6 +58,23 @@ pub fn words(out: &mut [u32]) -> bool {
     let got = io::read_full(0, &mut bytes[0..4 * n]);
     decode(&bytes, out);
     got == 4 * n
+}
+
+fn lowest(words: &[u32], i: usize) -> u8 {
+    if i < words.len() {
+        return (words[i] % 256) as u8;
+    }
+    0
+}
+
+// The lowest byte of each word, as many as there is room for, and then 0.
+pub fn bytes(words: &[u32], out: &mut [u8]) {
+    let mut i: usize = 0;
+    while i < out.len() {
+        let b = lowest(words, i);
+        out[i] = b;
+        i += 1;
+    }
 }
 
 // Word k, counted from 0, of a chain of n words: letter 1, then X of the word before.

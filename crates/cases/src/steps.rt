@@ -25,6 +25,28 @@ fn classify(c: Case, table: &[u32]) {
     sum::bytes(&bytes);
 }
 
+// The listed words are the bytes of the text.
+fn text(c: Case, listed: &[u32]) {
+    let mut bytes = [0u8; 16400];
+    let mut result = [0xEEEEEEEEu32; 140];
+    let mut words: usize = 9;
+    let mut place: usize = 9;
+    let n = listed.len();
+    let room = c.room;
+    input::bytes(listed, &mut bytes);
+    if n <= 16400 && room <= 140 {
+        let number = boundary::showrule_text(
+            &bytes[0..n],
+            &mut result[0..room],
+            &mut words,
+            &mut place,
+        );
+        show::answer(number, place);
+    }
+    show::number(words);
+    sum::plain(&result);
+}
+
 fn plain(c: Case, table: &[u32]) {
     let mut result = [0xEEEEEEEEu32; 140];
     let mut words: usize = 9;
@@ -145,7 +167,8 @@ fn call(c: Case, table: &[u32], samples: &[u32]) {
         4 => normal(c, table),
         5 => form(c, table),
         6 => judge(c, table, samples),
-        _ => row(c, table, samples),
+        7 => row(c, table, samples),
+        _ => text(c, table),
     }
     show::end();
 }

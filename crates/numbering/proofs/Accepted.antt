@@ -1,4 +1,4 @@
--- The table of a plain formula is accepted by the checks 1 to 10: it is well formed.
+-- The table of a formula with letters 1 to 32 is accepted by the checks 1 to 10: it is well formed. Where only plain tables are taken, that of a plain one.
 use Prim.Native.Nat.{ℕ, suc, _≤_, _<_}
 use native.Mathlib.Omega.{arith}
 use mathlib.Core.Path.{_≡_, refl, sym, ap, _∙_}
@@ -33,7 +33,7 @@ distinct-absent t d i h =
 
 -- a word made from fields that are as its kind asks is well formed
 module _ (plainOnly : Bool) (earlier : List ℕ) (n k l r : ℕ) (s : Shape) (e : shape k ≡ s) (hl : l < 16384) (hr : r < 16384) where
-  made-word : 0 < k → k < 12
+  made-word : 0 < k → (plainOnly ≡ true → k < 12)
       → (isBlank (leftField s) ≡ true → l ≡ 0) → (isBlank (rightField s) ≡ true → r ≡ 0)
       → (isOperand (leftField s) ≡ true → (0 < l) × (l < n)) → (isOperand (rightField s) ≡ true → (0 < r) × (r < n))
       → (isProposition (rightField s) ≡ true → (0 < r) × (r ≤ 32)) → occurs (pack k l r) earlier ≡ false
@@ -44,7 +44,7 @@ module _ (plainOnly : Bool) (earlier : List ℕ) (n k l r : ℕ) (s : Shape) (e 
       let right = right-pack k l r hr in
       record {
         kinded = rw kind p;
-        plain = λ h. rw kind q;
+        plain = λ h. rw kind (q h);
         blank-left = rw (kind, e, left) bl;
         blank-right = rw (kind, e, right) br;
         operand-left = rw (kind, e, left) ol;
@@ -53,7 +53,7 @@ module _ (plainOnly : Bool) (earlier : List ℕ) (n k l r : ℕ) (s : Shape) (e 
         new = f;
       }
 
--- the kinds of plain operators are 1 to 11
+-- the kinds of constants and letters are 1 to 4
 constant-kind : (c : Bool) → (0 < cond c 2 1) × (cond c 2 1 < 12)
 constant-kind true = (omega arith, omega arith)
 constant-kind false = (omega arith, omega arith)
@@ -62,37 +62,44 @@ letter-kind : (c : Bool) → (0 < cond c 3 4) × (cond c 3 4 < 12)
 letter-kind true = (omega arith, omega arith)
 letter-kind false = (omega arith, omega arith)
 
-binary-kind : (o : Binary) → T (plainBinary o) → (0 < binaryKind o) × (binaryKind o < 12)
-binary-kind conj h = (omega arith, omega arith)
-binary-kind disj h = (omega arith, omega arith)
-binary-kind until h = (omega arith, omega arith)
-binary-kind weak h = (omega arith, omega arith)
-binary-kind release h = (omega arith, omega arith)
-binary-kind strong h = (omega arith, omega arith)
-binary-kind implies h = absurd h
+-- those of operators are above 0, and of plain ones below 12
+unary-kind : (o : Unary) → (0 < unaryKind o) × (T (plainUnary o) → unaryKind o < 12)
+unary-kind next = (omega arith, λ h. omega arith)
+unary-kind neg = (omega arith, λ h. absurd h)
+unary-kind finally = (omega arith, λ h. absurd h)
+unary-kind globally = (omega arith, λ h. absurd h)
+
+binary-kind : (o : Binary) → (0 < binaryKind o) × (T (plainBinary o) → binaryKind o < 12)
+binary-kind conj = (omega arith, λ h. omega arith)
+binary-kind disj = (omega arith, λ h. omega arith)
+binary-kind until = (omega arith, λ h. omega arith)
+binary-kind weak = (omega arith, λ h. omega arith)
+binary-kind release = (omega arith, λ h. omega arith)
+binary-kind strong = (omega arith, λ h. omega arith)
+binary-kind implies = (omega arith, λ h. absurd h)
 
 -- a plain formula with letters 1 to 32
 abbrev pub Plain : Formula → Type 0
 Plain φ = T (isPlain φ) × Letters (λ p. (0 < p) × (p ≤ 32)) φ
 
-pub plain-hereditary : Hereditary Plain
+-- a formula with letters 1 to 32, plain where only plain ones are taken
+abbrev pub Formed : Bool → Formula → Type 0
+Formed b φ = (b ≡ true → T (isPlain φ)) × Letters (λ p. (0 < p) × (p ≤ 32)) φ
+
+plain-un : (o : Unary) (a : Formula) → T (isPlain (un o a)) → T (plainUnary o) × T (isPlain a)
 unfolding isPlain
-plain-hereditary = record {
-  under = λ o a p. (T-and (plainUnary o) (isPlain a) .0 (p .0) .1, p .1);
-  first = λ o a b p. (T-and (plainBinary o) (isPlain a) .0 (T-and (plainBinary o && isPlain a) (isPlain b) .0 (p .0) .0) .1, p .1 .0);
-  second = λ o a b p. (T-and (plainBinary o && isPlain a) (isPlain b) .0 (p .0) .1, p .1 .1);
+plain-un o a h = T-and (plainUnary o) (isPlain a) .0 h
+
+plain-bin : (o : Binary) (a b : Formula) → T (isPlain (bin o a b)) → T (plainBinary o && isPlain a) × T (isPlain b)
+unfolding isPlain
+plain-bin o a b h = T-and (plainBinary o && isPlain a) (isPlain b) .0 h
+
+formed-hereditary : (t : Bool) → Hereditary (Formed t)
+formed-hereditary t = record {
+  under = λ o a p. (λ e. plain-un o a (p .0 e) .1, p .1);
+  first = λ o a b p. (λ e. T-and (plainBinary o) (isPlain a) .0 (plain-bin o a b (p .0 e) .0) .1, p .1 .0);
+  second = λ o a b p. (λ e. plain-bin o a b (p .0 e) .1, p .1 .1);
 }
-
-plain-unary : (o : Unary) (a : Formula) → T (isPlain (un o a)) → o ≡ next
-unfolding isPlain
-plain-unary next a h = refl
-plain-unary neg a h = absurd h
-plain-unary finally a h = absurd h
-plain-unary globally a h = absurd h
-
-plain-binary : (o : Binary) (a b : Formula) → T (isPlain (bin o a b)) → T (plainBinary o)
-unfolding isPlain
-plain-binary o a b h = T-and (plainBinary o) (isPlain a) .0 (T-and (plainBinary o && isPlain a) (isPlain b) .0 h .0) .0
 
 pub plain-small : (φ : Formula) → Letters (λ p. (0 < p) × (p ≤ 32)) φ → Letters (λ p. p < 16384) φ
 plain-small (const b) h = tt
@@ -104,36 +111,43 @@ no : {A : Type 0} → false ≡ true → A
 no e = absurd (false≢true e)
 
 module _ (b : Bool) (t : List ℕ) (d : Distinct t) (k : length t < 16384) where
-  -- the word of a plain formula is well formed
-  made-well-formed : (i : ℕ) → i < length t → (φ : Formula) → Plain φ → Made t i φ → WellFormedWord b (take i t) (suc i) (getD t i 0)
+  -- the word of such a formula is well formed
+  made-well-formed : (i : ℕ) → i < length t → (φ : Formula) → Formed b φ → Made t i φ → WellFormedWord b (take i t) (suc i) (getD t i 0)
   made-well-formed i h (const c) p m =
       let q = constant-kind c in
-      rw m (made-word b (take i t) (suc i) (cond c 2 1) 0 0 (constant c) (shape-constant c) (lit< tt) (lit< tt) (q .0) (q .1)
+      rw m (made-word b (take i t) (suc i) (cond c 2 1) 0 0 (constant c) (shape-constant c) (lit< tt) (lit< tt) (q .0) (λ e. q .1)
       (λ e. refl) (λ e. refl) no no no (rw m at (distinct-absent t d i h)))
   made-well-formed i h (lit c a) p m =
       let q = letter-kind c in
-      rw m (made-word b (take i t) (suc i) (cond c 3 4) 0 a (letter c) (shape-letter c) (lit< tt) (omega (arith, p .1 .1)) (q .0) (q .1)
+      rw m (made-word b (take i t) (suc i) (cond c 3 4) 0 a (letter c) (shape-letter c) (lit< tt) (omega (arith, p .1 .1)) (q .0) (λ e. q .1)
       (λ e. refl) no no no (λ e. p .1) (rw m at (distinct-absent t d i h)))
   made-well-formed i h (un o a) p m =
-      let e : getD t i 0 ≡ pack 7 0 (m .0) = m .3 ∙ ap (λ (o : Unary). pack (unaryKind o) 0 (m .0)) (plain-unary o a (p .0)) in
       let g = held-within t a (m .0) (m .1) in
-      rw e (made-word b (take i t) (suc i) 7 0 (m .0) (unary next) (shape-unary next) (lit< tt) (omega (arith, g .1)) (lit< tt) (lit< tt)
-      (λ e. refl) no no (λ e. (g .0, omega (arith, m .2))) no (rw e at (distinct-absent t d i h)))
+      let q = unary-kind o in
+      rw (m .3) (made-word b (take i t) (suc i) (unaryKind o) 0 (m .0) (unary o) (shape-unary o) (lit< tt) (omega (arith, g .1)) (q .0) (λ e. q .1 (plain-un o a (p .0 e) .0))
+      (λ e. refl) no no (λ e. (g .0, omega (arith, m .2))) no (rw (m .3) at (distinct-absent t d i h)))
   made-well-formed i h (bin o a c) p m =
       let gl = held-within t a (m .0) (m .2) in
       let gr = held-within t c (m .1) (m .3) in
-      let q = binary-kind o (plain-binary o a c (p .0)) in
-      rw (m .6) (made-word b (take i t) (suc i) (binaryKind o) (m .0) (m .1) (binary o) (shape-binary o) (omega (arith, gl .1)) (omega (arith, gr .1)) (q .0) (q .1)
+      let q = binary-kind o in
+      rw (m .6) (made-word b (take i t) (suc i) (binaryKind o) (m .0) (m .1) (binary o) (shape-binary o) (omega (arith, gl .1)) (omega (arith, gr .1)) (q .0) (λ e. q .1 (T-and (plainBinary o) (isPlain a) .0 (plain-bin o a c (p .0 e) .0) .0))
       no no (λ e. (gl .0, omega (arith, m .4))) (λ e. (gr .0, omega (arith, m .5))) no (rw (m .6) at (distinct-absent t d i h)))
 
--- the table of a plain formula is accepted, also where only plain tables are taken
-pub accepted-tableOf : (b : Bool) (limit : ℕ) (φ : Formula) → Plain φ → length (tableOf φ) ≤ limit → limit ≤ 16383 → checked b limit (tableOf φ) ≡ Accepted
-accepted-tableOf b limit φ p h k =
+accepted-formed : (b : Bool) (limit : ℕ) (φ : Formula) → Formed b φ → length (tableOf φ) ≤ limit → limit ≤ 16383 → checked b limit (tableOf φ) ≡ Accepted
+accepted-formed b limit φ p h k =
     let t : List ℕ = tableOf φ in
     let short : length t < 16384 = omega arith in
     well-formed-accepted b limit t (record {
       some = omega (arith, tableOf-long φ);
       few = h;
-      word = λ i g. let f = tableOf-built plain-hereditary φ p .formula i g in made-well-formed b t (tableOf-distinct φ) short i g (f .0) (f .2) (f .1);
+      word = λ i g. let f = tableOf-built (formed-hereditary b) φ p .formula i g in made-well-formed b t (tableOf-distinct φ) short i g (f .0) (f .2) (f .1);
       all-used = tableOf-used φ (plain-small φ (p .1)) short;
     })
+
+-- the table of a plain formula is accepted, also where only plain tables are taken
+pub accepted-tableOf : (b : Bool) (limit : ℕ) (φ : Formula) → Plain φ → length (tableOf φ) ≤ limit → limit ≤ 16383 → checked b limit (tableOf φ) ≡ Accepted
+accepted-tableOf b limit φ p = accepted-formed b limit φ (λ e. p .0, p .1)
+
+-- that of any formula where all kinds are taken
+pub accepted-written : (limit : ℕ) (φ : Formula) → Letters (λ p. (0 < p) × (p ≤ 32)) φ → length (tableOf φ) ≤ limit → limit ≤ 16383 → checked false limit (tableOf φ) ≡ Accepted
+accepted-written limit φ p = accepted-formed false limit φ (λ e. absurd (false≢true e), p)

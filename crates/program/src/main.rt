@@ -1,29 +1,17 @@
-// Reads a written rule from standard input, least byte first, and prints its normal form: the count in decimal, then each word
-// on its line in eight hexadecimal digits, capitals. A refusal prints one line: refused, the number, at, the place.
+// Prints the normal form of a rule that is read from standard input: a written table, its words least byte first, or after the argument
+// `text` a text. The form is the count in decimal, then each word on its line in eight hexadecimal digits, capitals, or after the
+// argument `as-text` a text. A refusal prints one line: refused, the number, at, the place.
 use table::answer::Answer;
 use table::refusal;
 use table::refusal::Outcome;
 use table::refusal::Refusal;
 
+mod argument;
+mod print;
+
 fn refused(r: Refusal) {
     let report = refusal::report_of(r);
-    io::write_all(1, b"refused ");
-    io::print_decimal(1, report.0 as u64);
-    io::write_all(1, b" at ");
-    io::print_decimal(1, report.1 as u64);
-    io::write_all(1, b"\n");
-}
-
-fn print_words(words: &[u32], n: usize) {
-    io::print_decimal(1, n as u64);
-    io::write_all(1, b"\n");
-    let mut i: usize = 0;
-    while i < words.len() {
-        if i < n {
-            io::write_all(1, &listing::line(words[i]));
-        }
-        i += 1;
-    }
+    print::refused(report.0, report.1);
 }
 
 // One more piece of the input, and whether there was any: how many bytes it has beyond whole words.
@@ -45,23 +33,27 @@ fn rest() -> usize {
     odd
 }
 
-// The words of at most 65, one more than a rule may have, so that a longer input is refused as a table.
-fn answer(bytes: &[u8]) {
-    let mut words = [0u32; 65];
+// The form of a table, printed.
+fn answer(table: &[u32], as_text: bool) {
     let mut plain = [0u32; 130];
     let mut form = [0u32; 4096];
-    let n = listing::decode(bytes, &mut words);
-    let table: &[u32] = &words;
-    if table.len() < n {
-        return;
-    }
-    match pipeline::normal_form(&table[0..n], &mut plain, &mut form) {
-        Answer::Made(length) => print_words(&form, length),
+    match pipeline::normal_form(table, &mut plain, &mut form) {
+        Answer::Made(n) => print::form(&form, n, as_text),
         Answer::Refused(r) => refused(r),
     }
 }
 
-fn main() {
+// The words of at most 65, one more than a rule may have, so that a longer input is refused as a table.
+fn answer_bytes(bytes: &[u8], as_text: bool) {
+    let mut words = [0u32; 65];
+    let n = listing::decode(bytes, &mut words);
+    let table: &[u32] = &words;
+    if n <= table.len() {
+        answer(&table[0..n], as_text);
+    }
+}
+
+fn table(as_text: bool) {
     let mut bytes = [0u8; 260];
     let n = io::read_full(0, &mut bytes);
     let odd = rest();
@@ -70,8 +62,55 @@ fn main() {
         Outcome::Accepted => {
             let whole: &[u8] = &bytes;
             if n <= whole.len() {
-                answer(&whole[0..n]);
+                answer_bytes(&whole[0..n], as_text);
             }
         }
+    }
+}
+
+// Why a text is refused; where it departs from the grammar, the text itself too.
+fn refused_text(r: Refusal, bytes: &[u8]) {
+    let report = refusal::report_of(r);
+    print::refused(report.0, report.1);
+    if report.0 == 19 {
+        print::departure(bytes, report.1);
+    }
+}
+
+fn answer_text(bytes: &[u8], as_text: bool) {
+    let mut words = [0u32; 64];
+    match text::read(bytes, &mut words) {
+        Answer::Made(n) => {
+            let table: &[u32] = &words;
+            if n <= table.len() {
+                answer(&table[0..n], as_text);
+            }
+        }
+        Answer::Refused(r) => refused_text(r, bytes),
+    }
+}
+
+// A text of 1,024 bytes, its final line end, and one byte more: of an input that is longer, more than 1,024 are left.
+fn text_input(as_text: bool) {
+    let mut bytes = [0u8; 1027];
+    let n = io::read_full(0, &mut bytes);
+    rest();
+    let whole: &[u8] = &bytes;
+    if n <= whole.len() {
+        let m = typed::without_line_end(&whole[0..n]);
+        if m <= whole.len() {
+            answer_text(&whole[0..m], as_text);
+        }
+    }
+}
+
+fn main() {
+    let a = argument::all();
+    if !a.known {
+        io::write_all(2, b"usage: program [text] [as-text]\n");
+    } else if a.text {
+        text_input(a.as_text);
+    } else {
+        table(a.as_text);
     }
 }

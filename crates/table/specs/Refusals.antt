@@ -1,9 +1,9 @@
--- Document 01's number and place for every refusal, and the rule that the first that applies is returned.
+-- The number and place of every refusal, of document 01 and of the requests after it, and the rule that the first that applies is returned.
 use Prim.Native.Nat.{ℕ}
 use mathlib.Core.Bool.{Bool, true, false}
 use mathlib.Core.List.{List, [], _∷_}
 use Rattle.table.specs.declared.refusal.Refusal.{Refusal}
-use Rattle.table.specs.declared.refusal.Refusal.the-variants.{NoWord, TooManyWords, KindZero, NotPlain, OperandZero, OperandNotEarlier, LetterOutOfRange, FieldNotZero, Repeated, Unused, TooManyFixpoints, ResultTooShort, NoSample, TooManySamples, LoopStartOutside, ScratchTooShort, TallyFull, NotWords}
+use Rattle.table.specs.declared.refusal.Refusal.the-variants.{NoWord, TooManyWords, KindZero, NotPlain, OperandZero, OperandNotEarlier, LetterOutOfRange, FieldNotZero, Repeated, Unused, TooManyFixpoints, ResultTooShort, NoSample, TooManySamples, LoopStartOutside, ScratchTooShort, TallyFull, NotWords, NotGrammar, TextTooLong}
 use Rattle.table.specs.declared.refusal.Report.{Report}
 use Rattle.table.specs.declared.refusal.Outcome.{Outcome}
 use Rattle.table.specs.declared.refusal.Outcome.the-variants.{Accepted, Refused}
@@ -15,7 +15,7 @@ whole n = record { 0 = n; 1 = 0 }
 abbrev at : ℕ → ℕ → Report
 at n word = record { 0 = n; 1 = word }
 
--- the place is the number of the faulty word for 3 to 11, and 0 otherwise
+-- the place is the number of the faulty word for 3 to 11, that of the faulty byte for 19, and 0 otherwise
 abbrev pub reportOf : Refusal → Report
 reportOf NoWord = whole 1
 reportOf TooManyWords = whole 2
@@ -35,6 +35,8 @@ reportOf LoopStartOutside = whole 15
 reportOf ScratchTooShort = whole 16
 reportOf TallyFull = whole 17
 reportOf NotWords = whole 18
+reportOf (NotGrammar byte) = at 19 byte
+reportOf TextTooLong = whole 20
 
 abbrev pub numberOf : Refusal → ℕ
 numberOf r = reportOf r .0

@@ -1,4 +1,4 @@
-// Why a call is refused, a case for each number of document 01's check table, with the place of a faulty word.
+// Why a call is refused, a case for each number of document 01's check table and of the requests after it, with the place of a faulty word or byte.
 ghost use mathlib.Core.Path.{_≡_};
 ghost use Rattle.table.specs.Refusals.{reportOf, outcomeReport};
 
@@ -21,6 +21,8 @@ pub enum Refusal {
     ScratchTooShort,
     TallyFull,
     NotWords,
+    NotGrammar(usize),
+    TextTooLong,
 }
 
 // A step that has nothing to say when it is accepted.
@@ -29,7 +31,7 @@ pub enum Outcome {
     Refused(Refusal),
 }
 
-// Document 01's number of a refusal, and the place of the faulty word, 0 where it has none.
+// The number of a refusal, and the place of the faulty word or byte, 0 where it has none.
 pub struct Report(pub u32, pub usize);
 
 pub fn report_of(r: Refusal) -> Report
@@ -54,6 +56,8 @@ pub fn report_of(r: Refusal) -> Report
         Refusal::ScratchTooShort => Report(16, 0),
         Refusal::TallyFull => Report(17, 0),
         Refusal::NotWords => Report(18, 0),
+        Refusal::NotGrammar(n) => Report(19, n),
+        Refusal::TextTooLong => Report(20, 0),
     }
 }
 

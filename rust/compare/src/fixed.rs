@@ -1,9 +1,10 @@
-//! The fixed inputs: the rules of source 000's Tables 6 and 8 with their negations, and the edges that document 01 names.
+//! The fixed inputs: the rules of source 000's Tables 6 and 8 with their negations, and the edges that documents 01 and 02 name.
 use crate::generate::with_table;
 use crate::input::Input;
 use crate::numbers::Numbers;
 use reference::edges::{chain_of, chain_of_ands, chain_of_next, long_forms, nested};
 use reference::rules::rules;
+use reference::texts::texts;
 
 pub fn inputs() -> Vec<Input> {
     let mut tables: Vec<Vec<u32>> = rules().into_iter().map(|(_, table)| table).collect();
@@ -19,5 +20,11 @@ pub fn inputs() -> Vec<Input> {
         }
     }
     inputs.extend((0..).zip(nested(3)).map(|(n, (_, table))| with_table(&mut Numbers::new(8, n), table)));
+    for (n, (_, text)) in (0..).zip(texts()) {
+        for text_table in [0, 1, 2, 10, 20, 63, 64, 65, 70] {
+            let of_table = with_table(&mut Numbers::new(9, n), vec![0x3000_0001]);
+            inputs.push(Input { text: text.clone(), text_table, ..of_table });
+        }
+    }
     inputs
 }

@@ -3,6 +3,8 @@
 use crate::input::Input;
 use crate::library::Reference;
 use crate::numbers::Numbers;
+use crate::texts;
+use reference::steps;
 use reference::word::{Word, MOST_WORDS};
 use std::collections::HashSet;
 
@@ -14,7 +16,7 @@ pub fn input(numbers: &mut Numbers) -> Input {
     with_table(numbers, table)
 }
 
-/// An input with this table: a recording, a tally and rooms for it.
+/// An input with this table: a text, a recording, a tally and rooms for them.
 pub fn with_table(numbers: &mut Numbers, table: Vec<u32>) -> Input {
     let reference = Reference::default();
     let plain = reference.plain_form(&table).unwrap_or_default();
@@ -24,7 +26,9 @@ pub fn with_table(numbers: &mut Numbers, table: Vec<u32>) -> Input {
     let samples = samples(numbers, table.len());
     let rows = table.len() * samples.len().div_ceil(64);
     let (judged, held) = tally(numbers);
-    Input {
+    let input = Input {
+        text: vec![],
+        text_table: 0,
         plain_only: numbers.once_in(2),
         limit: if numbers.once_in(3) {
             room(numbers, table.len())
@@ -42,7 +46,10 @@ pub fn with_table(numbers: &mut Numbers, table: Vec<u32>) -> Input {
         judged,
         held,
         table,
-    }
+    };
+    let text = texts::text(numbers, &input.table);
+    let text_table = room(numbers, steps::text_table(&text).map_or(20, |words| words.len()));
+    Input { text, text_table, ..input }
 }
 
 /// A room for something so long: mostly enough, often exactly, and sometimes too little.

@@ -1,8 +1,11 @@
-//! One input of every step: a table, a recording, a tally, and the rooms of the slices that are lent.
+//! One input of every step: a text, a table, a recording, a tally, and the rooms of the slices that are lent.
 use std::fmt;
 
 #[derive(Clone, PartialEq, Eq, Debug)]
 pub struct Input {
+    /// Of reading a text, which has nothing to do with the table.
+    pub text: Vec<u8>,
+    pub text_table: usize,
     pub table: Vec<u32>,
     /// Of the check by itself.
     pub plain_only: bool,
@@ -25,18 +28,19 @@ pub struct Input {
 impl Input {
     /// What shrinking makes smaller.
     pub fn size(&self) -> (usize, usize, usize, u64) {
-        let rooms = self.bytes + self.plain + self.normal + self.form_plain + self.form + self.scratch;
-        let words: u64 = self.table.iter().map(|&w| w as u64).sum();
+        let rooms = self.text_table + self.bytes + self.plain + self.normal + self.form_plain + self.form + self.scratch;
+        let words: u64 = self.table.iter().map(|&w| w as u64).sum::<u64>() + self.text.iter().map(|&b| b as u64).sum::<u64>();
         let rest =
             self.start as u64 + self.judged as u64 + self.held as u64 + self.limit.min(1 << 40) as u64 + self.plain_only as u64;
         let bits: u64 = self.samples.iter().map(|s| s.count_ones() as u64).sum();
-        (self.table.len() + self.samples.len(), self.table.len(), rooms, words + rest + bits)
+        (self.text.len() + self.table.len() + self.samples.len(), self.table.len(), rooms, words + rest + bits)
     }
 }
 
 impl fmt::Display for Input {
     fn fmt(&self, f: &mut fmt::Formatter) -> fmt::Result {
         let hex = |words: &[u32]| words.iter().map(|w| format!(" {w:08X}")).collect::<String>();
+        writeln!(f, "text of {} bytes: \"{}\", room {}", self.text.len(), self.text.escape_ascii(), self.text_table)?;
         writeln!(f, "table of {} words:{}", self.table.len(), hex(&self.table))?;
         writeln!(f, "check: plain only {}, limit {}", self.plain_only, self.limit)?;
         writeln!(

@@ -19,6 +19,7 @@ pub struct Lent {
 pub trait Library {
     fn check(&self, table: &[u32], plain: bool, limit: usize, place: &mut usize) -> u32;
     fn classify(&self, table: &[u32], bytes: &mut [u8], place: &mut usize) -> u32;
+    fn text(&self, text: &[u8], result: &mut [u32], words: &mut usize, place: &mut usize) -> u32;
     fn plain(&self, table: &[u32], result: &mut [u32], words: &mut usize, place: &mut usize) -> u32;
     fn normal(&self, table: &[u32], result: &mut [u32], words: &mut usize, place: &mut usize) -> u32;
     fn form(&self, table: &[u32], plain: &mut [u32], result: &mut [u32], words: &mut usize, place: &mut usize) -> u32;
@@ -46,6 +47,10 @@ impl Library for Product {
 
     fn classify(&self, table: &[u32], bytes: &mut [u8], place: &mut usize) -> u32 {
         unsafe { ffi::showrule_classify(table.as_ptr(), table.len(), bytes.as_mut_ptr(), bytes.len(), place) }
+    }
+
+    fn text(&self, text: &[u8], result: &mut [u32], words: &mut usize, place: &mut usize) -> u32 {
+        unsafe { ffi::showrule_text(text.as_ptr(), text.len(), result.as_mut_ptr(), result.len(), words, place) }
     }
 
     fn plain(&self, table: &[u32], result: &mut [u32], words: &mut usize, place: &mut usize) -> u32 {
@@ -152,6 +157,10 @@ impl Library for Reference {
 
     fn classify(&self, table: &[u32], bytes: &mut [u8], place: &mut usize) -> u32 {
         told(steps::classify(table, bytes), place).0
+    }
+
+    fn text(&self, text: &[u8], result: &mut [u32], words: &mut usize, place: &mut usize) -> u32 {
+        words_told(steps::text(text, result), words, place)
     }
 
     fn plain(&self, table: &[u32], result: &mut [u32], words: &mut usize, place: &mut usize) -> u32 {

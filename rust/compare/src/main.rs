@@ -13,6 +13,7 @@ mod library;
 mod numbers;
 mod run;
 mod shrink;
+mod texts;
 
 use input::Input;
 use library::{Library, Product, Reference};

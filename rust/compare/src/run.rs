@@ -1,6 +1,10 @@
 //! Runs every step of a library on an input, and says where two libraries differ.
 use crate::input::Input;
 use crate::library::{Lent, Library};
+use reference::forest::Forest;
+use reference::listing::bits;
+use reference::steps::check as checked;
+use reference::text::{show, shown_bytes};
 use std::fmt;
 
 /// What a call answered and left: the number, the lent numbers, and all memory that it could have reached.
@@ -55,6 +59,7 @@ fn seen(library: &dyn Library, input: &Input) -> Vec<Seen> {
         check(library, input, "check, written", false, 64),
         check(library, input, "check, plain", true, 130),
         classify(library, input),
+        text(library, input),
         plain(library, input),
         normal(library, input),
         form(library, input),
@@ -75,6 +80,13 @@ fn classify(library: &dyn Library, input: &Input) -> Seen {
     let mut place = BEFORE;
     let number = library.classify(&input.table, bytes.slice(), &mut place);
     Seen { step: "class", number, lent: vec![place as u64], memory: held(&bytes) }
+}
+
+fn text(library: &dyn Library, input: &Input) -> Seen {
+    let mut result = words(input.text_table);
+    let (mut made, mut place) = (BEFORE, BEFORE);
+    let number = library.text(&input.text, result.slice(), &mut made, &mut place);
+    Seen { step: "text", number, lent: vec![made as u64, place as u64], memory: held(&result) }
 }
 
 fn plain(library: &dyn Library, input: &Input) -> Seen {
@@ -138,6 +150,38 @@ fn agreement(library: &dyn Library, input: &Input) -> Seen {
     Seen { step: AGREEMENT, number: 0, lent, memory: vec![] }
 }
 
+/// A written table printed as text, and that text read: whether it is printed as the reference prints it, whether the table comes back
+/// in first-need order (unless it has kind 4, which is read as two words), and whether both have the same form.
+fn round_trip(library: &dyn Library, input: &Input) -> Seen {
+    let table = &input.table;
+    let mut lent = CAME_BACK.to_vec();
+    if checked(table, false, 64).is_ok() && shown_bytes(table) <= 1_024 {
+        let mut forest = Forest::new();
+        let tree = *forest.of_table(table).last().expect("a word");
+        let text = show(&forest, tree);
+        let mut result = vec![0; 64];
+        let (mut made, mut place) = (0, 0);
+        let number = library.text(text.as_bytes(), &mut result, &mut made, &mut place);
+        let kind_4 = table.iter().any(|word| word >> 28 == 4);
+        let read = if number == 2 && kind_4 { table } else { &result[..made] };
+        let as_printed = showrule::to_text(table, text.len()) == Ok(text);
+        let back = kind_4 || read == bits(&forest, tree);
+        lent = vec![as_printed as u64, back as u64, (whole_way(library, table) == whole_way(library, read)) as u64];
+    }
+    Seen { step: ROUND_TRIP, number: 0, lent, memory: vec![] }
+}
+
+/// Number, length, place and words of a table's form.
+fn whole_way(library: &dyn Library, table: &[u32]) -> (u32, usize, usize, Vec<u32>) {
+    let (mut plain, mut result) = (vec![0; 130], vec![0; 16_383]);
+    let (mut made, mut place) = (0, 0);
+    let number = library.form(table, &mut plain, &mut result, &mut made, &mut place);
+    (number, made, place, result)
+}
+
+const ROUND_TRIP: &str = "printed and read back, same form";
+const CAME_BACK: [u64; 3] = [1, 1, 1];
+
 const AGREEMENT: &str = "rule and form agree, form in Delta-2";
 const AGREED: [u64; 2] = [1, 1];
 
@@ -148,7 +192,9 @@ pub fn compare(
     input: &Input,
 ) -> Result<Vec<(&'static str, u32)>, Box<Difference>> {
     let agreed = Seen { step: AGREEMENT, number: 0, lent: AGREED.to_vec(), memory: vec![] };
-    let steps = seen(product, input).into_iter().zip(seen(reference, input)).chain([(agreement(product, input), agreed)]);
+    let came_back = Seen { step: ROUND_TRIP, number: 0, lent: CAME_BACK.to_vec(), memory: vec![] };
+    let of_product = [(agreement(product, input), agreed), (round_trip(product, input), came_back)];
+    let steps = seen(product, input).into_iter().zip(seen(reference, input)).chain(of_product);
     let same = |(product, reference): (Seen, Seen)| {
         if product == reference {
             Ok((product.step, product.number))

@@ -13,8 +13,15 @@ pub fn smallest(mut input: Input, differs: impl Fn(&Input) -> bool) -> Input {
     }
 }
 
-const ROOMS: [fn(&mut Input) -> &mut usize; 6] =
-    [|i| &mut i.bytes, |i| &mut i.plain, |i| &mut i.normal, |i| &mut i.form_plain, |i| &mut i.form, |i| &mut i.scratch];
+const ROOMS: [fn(&mut Input) -> &mut usize; 7] = [
+    |i| &mut i.text_table,
+    |i| &mut i.bytes,
+    |i| &mut i.plain,
+    |i| &mut i.normal,
+    |i| &mut i.form_plain,
+    |i| &mut i.form,
+    |i| &mut i.scratch,
+];
 
 /// Inputs that are smaller in one way, the boldest first.
 fn candidates(input: &Input) -> Vec<Input> {
@@ -24,7 +31,13 @@ fn candidates(input: &Input) -> Vec<Input> {
         change(&mut smaller);
         all.push(smaller);
     };
-    let (n, l) = (input.table.len(), input.samples.len());
+    let (n, l, b) = (input.table.len(), input.samples.len(), input.text.len());
+    // any part of the text left out
+    for long in std::iter::successors(Some(b), |long| Some(long / 2)).take_while(|&long| long > 0) {
+        for from in (0..=b - long).step_by(long.div_ceil(4)) {
+            with(&|i| drop(i.text.drain(from..from + long)));
+        }
+    }
     for keep in [n / 2, n * 3 / 4] {
         with(&|i| i.table.truncate(keep));
     }
@@ -51,6 +64,11 @@ fn candidates(input: &Input) -> Vec<Input> {
     with(&|i| i.held = 0);
     with(&|i| i.plain_only = false);
     with(&|i| i.limit = 64);
+    for j in (0..b).take(300) {
+        for simpler in [b' ', b'X', b'1'] {
+            with(&|i| i.text[j] = simpler);
+        }
+    }
     for j in (0..n).take(300) {
         for simpler in [0x1000_0000, 0x3000_0001, 0x3000_0002] {
             with(&|i| i.table[j] = simpler);

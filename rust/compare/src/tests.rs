@@ -20,6 +20,8 @@ enum Fault {
     RowNotLast,
     HeldForgotten,
     GuardWritten,
+    TextPlaceLate,
+    WordsBeforeGrammar,
 }
 
 impl Library for Faulty {
@@ -33,6 +35,20 @@ impl Library for Faulty {
 
     fn classify(&self, table: &[u32], bytes: &mut [u8], place: &mut usize) -> u32 {
         self.right.classify(table, bytes, place)
+    }
+
+    fn text(&self, text: &[u8], result: &mut [u32], words: &mut usize, place: &mut usize) -> u32 {
+        let number = self.right.text(text, result, words, place);
+        if self.fault == Fault::TextPlaceLate && number == 19 && *place <= text.len() && text.starts_with(b"(") {
+            *place += 1;
+        }
+        // every word is counted, as if none were used again
+        let counted = text.iter().filter(|&byte| b"pXFG!&|>UWRM".contains(byte)).count();
+        if self.fault == Fault::WordsBeforeGrammar && number == 19 && counted > 64 {
+            *place = 0;
+            return 2;
+        }
+        number
     }
 
     fn plain(&self, table: &[u32], result: &mut [u32], words: &mut usize, place: &mut usize) -> u32 {
@@ -112,9 +128,13 @@ fn faults_are_found_and_made_small() {
         Fault::RowNotLast,
         Fault::HeldForgotten,
         Fault::GuardWritten,
+        Fault::TextPlaceLate,
+        Fault::WordsBeforeGrammar,
     ] {
         let smallest = found(fault);
         assert!(smallest.table.len() <= 3, "{smallest}");
         assert!(smallest.samples.len() <= 1, "{smallest}");
+        let bytes = if fault == Fault::WordsBeforeGrammar { 65 } else { 2 };
+        assert!(smallest.text.len() <= bytes, "{smallest}");
     }
 }

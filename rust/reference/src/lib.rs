@@ -1,4 +1,4 @@
-//! Document 01 said once more, apart from the product: rules are trees, M and N are sets of trees, classes are sets, and
+//! Documents 01 and 02 said once more, apart from the product: rules are trees, M and N are sets of trees, classes are sets, and
 //! truth is found by walking along the recording. It shares no code with the product and follows the sentences of
 //! document 01 (and the definitions of source 002 that it names), not the product's definitions. It is slow on purpose.
 //!
@@ -16,4 +16,6 @@ pub mod recording;
 pub mod rules;
 pub mod steps;
 pub mod text;
+pub mod texts;
+pub mod typed;
 pub mod word;

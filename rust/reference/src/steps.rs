@@ -6,6 +6,7 @@ use crate::listing::list;
 use crate::normal::normal as normal_tree;
 use crate::plain::Plain;
 use crate::recording::{Recording, Truth};
+use crate::typed;
 use crate::word::{Word, MOST_WORDS};
 use std::ops::Range;
 
@@ -41,6 +42,20 @@ pub fn classify(table: &[u32], bytes: &mut [u8]) -> Result<(), Refusal> {
     Ok(())
 }
 
+/// The table of a rule typed as text (document 02, N1), by every check but 12: 20, then 19, then 2.
+pub fn text_table(text: &[u8]) -> Result<Vec<Word>, Refusal> {
+    if text.len() > 1_024 {
+        return Err(Refusal { number: 20, place: 0 });
+    }
+    let mut forest = Forest::new();
+    let rule = typed::read(&mut forest, text).map_err(|place| Refusal { number: 19, place })?;
+    let words = list(&forest, rule);
+    if words.len() > 64 {
+        return Err(Refusal { number: 2, place: 0 });
+    }
+    Ok(words)
+}
+
 /// The plain form, by every check but 12.
 pub fn plain_form(table: &[u32]) -> Result<Vec<Word>, Refusal> {
     check(table, false, 64)?;
@@ -60,14 +75,18 @@ pub fn normal_form(table: &[u32]) -> Result<Vec<Word>, Refusal> {
     Ok(list(&forest, form))
 }
 
-/// Writes a form to the front of a slice: check 12.
-pub fn write(form: Result<Vec<Word>, Refusal>, result: &mut [u32]) -> Result<usize, Refusal> {
-    let words = form?;
+/// Writes a table to the front of a slice: check 12.
+pub fn write(table: Result<Vec<Word>, Refusal>, result: &mut [u32]) -> Result<usize, Refusal> {
+    let words = table?;
     fits(words.len(), result.len()).inspect_err(|_| result.fill(0))?;
     for (slot, word) in result.iter_mut().zip(&words) {
         *slot = word.bits();
     }
     Ok(words.len())
+}
+
+pub fn text(text: &[u8], result: &mut [u32]) -> Result<usize, Refusal> {
+    write(text_table(text), result)
 }
 
 pub fn plain(table: &[u32], result: &mut [u32]) -> Result<usize, Refusal> {

@@ -1,6 +1,7 @@
-//! Rules as text, for the data files and for printing: letters p1 to p32; ! X F G before a rule; U W R M between two, then &,
-//! then |, then ->, each binding less than those before it; round brackets.
+//! Rules as text, for the data files: letters p1 to p32; ! X F G before a rule; U W R M between two, then &, then |, then ->, each
+//! binding less than those before it; round brackets. And rules printed, as rules are typed (`typed`).
 use crate::forest::{Forest, Node, Tree};
+use crate::word::Word;
 
 /// Reads a rule; panics on what is none, since the texts are this repository's own.
 pub fn read(forest: &mut Forest, text: &str) -> Tree {
@@ -99,7 +100,7 @@ impl Reader<'_> {
     }
 }
 
-/// A rule as text, two-sided operators in brackets; a "not letter" as !p1.
+/// A rule as it is typed, with a space on either side of a two-sided operator; a "not letter" as !p1.
 pub fn show(forest: &Forest, tree: Tree) -> String {
     let one = |symbol: &str, a: Tree| format!("{symbol}{}", show(forest, a));
     let two = |symbol: &str, a: Tree, b: Tree| format!("({} {symbol} {})", show(forest, a), show(forest, b));
@@ -110,30 +111,71 @@ pub fn show(forest: &Forest, tree: Tree) -> String {
         Node::NotLetter(n) => format!("!p{n}"),
         Node::And(a, b) => two("&", a, b),
         Node::Or(a, b) => two("|", a, b),
-        Node::Next(a) => one("X ", a),
+        Node::Next(a) => one("X", a),
         Node::Until(a, b) => two("U", a, b),
         Node::Weak(a, b) => two("W", a, b),
         Node::Release(a, b) => two("R", a, b),
         Node::Strong(a, b) => two("M", a, b),
         Node::Not(a) => one("!", a),
-        Node::Finally(a) => one("F ", a),
-        Node::Globally(a) => one("G ", a),
+        Node::Finally(a) => one("F", a),
+        Node::Globally(a) => one("G", a),
         Node::Implies(a, b) => two("->", a, b),
     }
+}
+
+/// How many bytes `show` prints for the last word of a table that passes the checks: a shared word counts wherever it is used.
+pub fn shown_bytes(table: &[u32]) -> u128 {
+    let mut bytes: Vec<u128> = Vec::new();
+    for &bits in table {
+        let word = Word::of(bits);
+        let own = match word.kind {
+            1 => 5,
+            2 => 4,
+            3 | 4 => format!("p{}", word.right).len() as u128 + (word.kind == 4) as u128,
+            7 | 12 | 13 | 14 => 1,
+            15 => 6,
+            _ => 5,
+        };
+        let operands = word.operands().into_iter().map(|n| bytes[n - 1]);
+        bytes.push(operands.fold(own, u128::saturating_add));
+    }
+    *bytes.last().expect("a rule has a word")
 }
 
 #[cfg(test)]
 mod tests {
     use super::*;
+    use crate::edges::{chain_of_ands, nested};
+    use crate::listing::bits;
+    use crate::steps::text_table;
+    use crate::typed;
+
+    #[test]
+    fn shown_as_typed() {
+        let mut forest = Forest::new();
+        for text in ["p1", "!p1", "XFGp32", "((true & false) -> (p1 | !p2))", "(((p1 U p2) W p3) R (p4 M p1))"] {
+            let tree = typed::read(&mut forest, text.as_bytes()).expect("a rule");
+            assert_eq!(show(&forest, tree), text);
+        }
+        for (_, table) in nested(2) {
+            let tree = *forest.of_table(&table).last().expect("a word");
+            let shown = show(&forest, tree);
+            assert_eq!(shown_bytes(&table), shown.len() as u128);
+            let words = text_table(shown.as_bytes()).expect("a rule");
+            assert_eq!(words.iter().map(|w| w.bits()).collect::<Vec<u32>>(), table);
+            assert_eq!(bits(&forest, tree), table);
+        }
+        assert_eq!(shown_bytes(&chain_of_ands(60)), 2 * (1 << 60) + 5 * ((1 << 60) - 1));
+    }
 
     #[test]
     fn binding() {
         let mut forest = Forest::new();
         for (text, shown) in [
-            ("p1 | p2 & p3 U p4 -> X p1", "((p1 | (p2 & (p3 U p4))) -> X p1)"),
-            ("G!p1 | p2 U p1", "(G !p1 | (p2 U p1))"),
+            ("p1 | p2 & p3 U p4 -> X p1", "((p1 | (p2 & (p3 U p4))) -> Xp1)"),
+            ("G!p1 | p2 U p1", "(G!p1 | (p2 U p1))"),
             ("p1 | p2 | p3", "((p1 | p2) | p3)"),
-            ("GF p32 & (true M false)", "(G F p32 & (true M false))"),
+            ("GF p32 & (true M false)", "(GFp32 & (true M false))"),
         ] {
             let tree = read(&mut forest, text);
             assert_eq!(show(&forest, tree), shown);

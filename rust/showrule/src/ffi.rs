@@ -6,6 +6,15 @@ extern "C" {
 
     pub fn showrule_classify(table: *const u32, words: usize, bytes: *mut u8, room: usize, place: *mut usize) -> u32;
 
+    pub fn showrule_text(
+        text: *const u8,
+        bytes: usize,
+        result: *mut u32,
+        room: usize,
+        table_words: *mut usize,
+        place: *mut usize,
+    ) -> u32;
+
     pub fn showrule_plain(
         table: *const u32,
         words: usize,

@@ -1,8 +1,9 @@
 //! Show rules for desks: a safe crate over the proved static library.
 //!
 //! A rule is a table of 32-bit words numbered from 1; document 01 says what they mean. Every call takes slices that the caller
-//! lends, allocates nothing, and answers a `Result`: a [`Refusal`] has document 01's number and place, and says in a sentence what
-//! is wrong. What a slice holds after a call, refused or not, is said at each function.
+//! lends, allocates nothing, and answers a `Result`: a [`Refusal`] has the documents' number and place, and says in a sentence what
+//! is wrong. What a slice holds after a call, refused or not, is said at each function. Only printing a table ([`to_text`]), and the
+//! error of a text ([`NotRead`]), which keeps the text, allocate.
 //!
 //! ```
 //! // G p1: "letter 1, for ever".
@@ -12,6 +13,25 @@
 //! assert_eq!(form.len(), 10);
 //! assert_eq!(form[9], 0x6001_4009);
 //! # Ok::<(), showrule::Refusal>(())
+//! ```
+//!
+//! A rule can be typed as text, and printed as text; document 02 (N1) says how. [`Rule`] reads one from a `&str`, and a refusal shows
+//! where it breaks:
+//!
+//! ```
+//! let rule: showrule::Rule = "G(p1 -> Fp2)".parse()?;
+//! assert_eq!(*rule, [0x3000_0001, 0x3000_0002, 0xD000_0002, 0xF000_4003, 0xE000_0004]);
+//! let mut result = [0; 130];
+//! let plain = showrule::plain_form(&rule, &mut result)?;
+//! assert_eq!(showrule::to_text(plain, 100)?, "(false R (!p1 | (true U p2)))");
+//!
+//! let error = "(p1 U p33)".parse::<showrule::Rule>().unwrap_err();
+//! assert_eq!((error.refusal().number(), error.refusal().place()), (19, 9));
+//! println!("{error}");
+//! // no rule begins as the text does up to its byte 9
+//! //   (p1 U p33)
+//! //           ^
+//! # Ok::<(), Box<dyn std::error::Error>>(())
 //! ```
 //!
 //! A damaged table is refused with a sentence:
@@ -26,9 +46,11 @@
 #[allow(missing_docs)]
 pub mod ffi;
 mod refusal;
+mod text;
 
 use refusal::Call;
 pub use refusal::{Refusal, Side};
+pub use text::{from_text, to_text, NotPrinted, NotRead, Rule};
 
 /// The most words that a table can have: a field has 14 bits.
 pub const MOST_WORDS: usize = 16_383;
@@ -38,6 +60,8 @@ pub const MOST_WRITTEN_WORDS: usize = 64;
 pub const MOST_PLAIN_WORDS: usize = 130;
 /// The most until-like words (kinds 8 to 11) of a plain table that goes into the normal-form step.
 pub const MOST_UNTIL_LIKE: usize = 8;
+/// The most bytes of a text that is read.
+pub const MOST_TEXT_BYTES: usize = 1_024;
 /// The most samples of a recording.
 pub const MOST_SAMPLES: usize = 4_096;
 

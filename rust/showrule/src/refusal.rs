@@ -1,5 +1,5 @@
-//! Why a call is refused: document 01's number and place, and a sentence that says what to look at.
-use crate::{scratch_words, Tally, MOST_SAMPLES, MOST_UNTIL_LIKE};
+//! Why a call is refused: its number and place in the documents, and a sentence that says what to look at.
+use crate::{scratch_words, Tally, MOST_SAMPLES, MOST_TEXT_BYTES, MOST_UNTIL_LIKE, MOST_WRITTEN_WORDS};
 use std::fmt;
 
 /// A field of a word.
@@ -11,8 +11,8 @@ pub enum Side {
     Right,
 }
 
-/// Why a call is refused. The cases are those of document 01's check table; [`Refusal::number`] and [`Refusal::place`] are its two
-/// numbers, and the text (`to_string`) says what to look at.
+/// Why a call is refused. The cases are those of document 01's check table and of document 02; [`Refusal::number`] and
+/// [`Refusal::place`] are their two numbers, and the sentence (`to_string`) says what to look at.
 #[derive(Clone, Copy, PartialEq, Eq, Debug)]
 #[non_exhaustive]
 #[allow(missing_docs)]
@@ -77,6 +77,16 @@ pub enum Refusal {
         judged: u32,
         held: u32,
     },
+    /// The table of a text would have too many words: 2, as for a table.
+    TextOfTooManyWords,
+    /// The text is no rule, whatever came after its byte of this number, counted from 1, or as far as it goes.
+    NoRule {
+        place: usize,
+        ends_early: bool,
+    },
+    TextTooLong {
+        bytes: usize,
+    },
     /// A number that this crate does not know.
     Other {
         number: u32,
@@ -88,6 +98,7 @@ pub enum Refusal {
 #[derive(Clone, Copy, Default)]
 pub(crate) struct Call<'a> {
     pub table: &'a [u32],
+    pub text: Option<&'a [u8]>,
     pub limit: usize,
     pub room: usize,
     pub samples: usize,
@@ -112,6 +123,7 @@ impl Call<'_> {
         let two_sided = matches!(kind, 5 | 6 | 8..=11 | 15);
         match number {
             1 => Refusal::NoWord,
+            2 if self.text.is_some() => Refusal::TextOfTooManyWords,
             2 => Refusal::TooManyWords { words: self.table.len(), limit: self.limit },
             3 => Refusal::KindZero { place },
             4 => Refusal::NotPlain { place, kind },
@@ -130,17 +142,19 @@ impl Call<'_> {
             15 => Refusal::LoopStartOutside { start: self.start, samples: self.samples },
             16 => Refusal::ScratchTooShort { room: self.room, needed: scratch_words(self.table.len(), self.samples) },
             17 => Refusal::TallyFull { judged: self.tally.judged, held: self.tally.held },
+            19 => Refusal::NoRule { place, ends_early: self.text.is_some_and(|text| place > text.len()) },
+            20 => Refusal::TextTooLong { bytes: self.text.map_or(0, |text| text.len()) },
             _ => Refusal::Other { number, place },
         }
     }
 }
 
 impl Refusal {
-    /// Document 01's number.
+    /// The documents' number.
     pub fn number(&self) -> u32 {
         match *self {
             Refusal::NoWord => 1,
-            Refusal::TooManyWords { .. } => 2,
+            Refusal::TooManyWords { .. } | Refusal::TextOfTooManyWords => 2,
             Refusal::KindZero { .. } => 3,
             Refusal::NotPlain { .. } => 4,
             Refusal::OperandZero { .. } => 5,
@@ -156,11 +170,13 @@ impl Refusal {
             Refusal::LoopStartOutside { .. } => 15,
             Refusal::ScratchTooShort { .. } => 16,
             Refusal::TallyFull { .. } => 17,
+            Refusal::NoRule { .. } => 19,
+            Refusal::TextTooLong { .. } => 20,
             Refusal::Other { number, .. } => number,
         }
     }
 
-    /// The number of the faulty word for 3 to 11, and 0 otherwise.
+    /// The number of the faulty word for 3 to 11, that of a byte of the text for 19, and 0 otherwise.
     pub fn place(&self) -> usize {
         match *self {
             Refusal::KindZero { place }
@@ -172,6 +188,7 @@ impl Refusal {
             | Refusal::Repeated { place, .. }
             | Refusal::Unused { place }
             | Refusal::TooManyUntilLike { place, .. }
+            | Refusal::NoRule { place, .. }
             | Refusal::Other { place, .. } => place,
             _ => 0,
         }
@@ -233,6 +250,18 @@ impl fmt::Display for Refusal {
                 write!(f, "the tally has {held} held of {judged} judged: it is damaged")
             }
             Refusal::TallyFull { judged, .. } => write!(f, "the tally is full: {judged} judgements are counted"),
+            Refusal::TextOfTooManyWords => {
+                write!(f, "the table of the text has over {MOST_WRITTEN_WORDS} words: make the rule shorter")
+            }
+            Refusal::NoRule { place, ends_early: false } => {
+                write!(f, "no rule begins as the text does up to its byte {place}")
+            }
+            Refusal::NoRule { place, ends_early: true } => {
+                write!(f, "the text ends before its rule does: byte {place} is missing")
+            }
+            Refusal::TextTooLong { bytes } => {
+                write!(f, "the text has {bytes} bytes, and at most {MOST_TEXT_BYTES} are read")
+            }
             Refusal::Other { number, place } => write!(f, "refused {number} at {place}"),
         }
     }

@@ -11,6 +11,8 @@ fn empty_slices() {
         assert_eq!((showrule_check(null(), 0, false, 64, &mut place), place), (1, 0));
         assert_eq!(showrule_classify(null(), 0, null_mut(), 0, &mut place), 1);
         assert_eq!(showrule_classify(letter.as_ptr(), 1, null_mut(), 0, &mut place), 12);
+        assert_eq!((showrule_text(null(), 0, null_mut(), 0, &mut words, &mut place), words, place), (19, 0, 1));
+        assert_eq!((showrule_text(b"p1".as_ptr(), 2, null_mut(), 0, &mut words, &mut place), words, place), (12, 0, 0));
         assert_eq!(showrule_plain(null(), 0, null_mut(), 0, &mut words, &mut place), 1);
         assert_eq!(showrule_plain(letter.as_ptr(), 1, null_mut(), 0, &mut words, &mut place), 12);
         assert_eq!(showrule_normal(letter.as_ptr(), 1, null_mut(), 0, &mut words, &mut place), 12);

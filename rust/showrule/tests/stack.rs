@@ -37,6 +37,18 @@ fn deepest_rules() {
 }
 
 #[test]
+fn deepest_texts() {
+    let brackets = format!("{}p1{}", "(".repeat(170), "&p1)".repeat(170));
+    let prefixes = format!("{}p1", "X".repeat(1_022));
+    on_small_stack(move || {
+        assert_eq!(from_text(brackets.as_bytes(), &mut [0; 64]), Err(Refusal::TextOfTooManyWords));
+        assert_eq!(from_text(prefixes.as_bytes(), &mut [0; 64]), Err(Refusal::TextOfTooManyWords));
+        assert_eq!(from_text(&[b'('; 1_024], &mut [0; 64]).unwrap_err().place(), 1_025);
+        assert_eq!(to_text(&chain(16_383, 7), 20_000).unwrap().len(), 16_384);
+    });
+}
+
+#[test]
 fn eight_until_like_words_under_a_deep_rule() {
     for kind in [8, 9, 10, 11] {
         let mut table = chain(9, kind);

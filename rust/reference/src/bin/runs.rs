@@ -1,36 +1,122 @@
-//! Writes the runs of the program: in the folder named, NAME.in is what it is given and NAME.out what it must print.
+//! Writes the runs of the program: in the folder named, NAME.in is what it is given, NAME.args its arguments where it has any, NAME.out
+//! what it must print, and NAME.err what it must say on standard error where that is something.
 //!
 //!     runs FOLDER
-use reference::edges::{chain_of, chain_of_ands, chain_of_next, long_forms};
-use reference::program::prints;
+use reference::edges::{chain_of, chain_of_ands, chain_of_next, long_forms, nested};
+use reference::program::{Printed, Run};
 use reference::rules::rules;
+use reference::texts::texts;
+use reference::word::Word;
 use std::{env, fs, path::Path};
 
 fn main() {
     let folder = env::args().nth(1).expect("usage: runs FOLDER");
     let folder = Path::new(&folder);
-    for (name, input) in runs() {
-        let file = |end: &str| folder.join(format!("{}.{end}", name.replace(' ', "-")));
-        fs::write(file("out"), prints(&input)).expect("the folder can be written");
-        fs::write(file("in"), input).expect("the folder can be written");
+    let write = |name: &str, arguments: &str, input: &[u8], printed: &Printed| {
+        let name: String = name.chars().map(|c| if c.is_ascii_alphanumeric() { c } else { '-' }).collect();
+        let file = |end: &str| folder.join(format!("{name}.{end}"));
+        assert!(!file("in").exists(), "{name} is the name of one run");
+        let write = |end: &str, bytes: &[u8]| fs::write(file(end), bytes).expect("the folder can be written");
+        write("in", input);
+        write("out", printed.output.as_bytes());
+        if !arguments.is_empty() {
+            write("args", format!("{arguments}\n").as_bytes());
+        }
+        if !printed.error.is_empty() {
+            write("err", printed.error.as_bytes());
+        }
+    };
+    for (name, run) in runs() {
+        let arguments = match (run.text, run.as_text) {
+            (false, false) => "",
+            (true, false) => "text",
+            (false, true) => "as-text",
+            (true, true) => "text as-text",
+        };
+        write(&name, arguments, &run.input, &run.prints());
     }
+    let both = Run { text: true, as_text: true, input: b"Gp1".to_vec() };
+    write("other order", "as-text text", &both.input, &both.prints());
+    let usage = Printed { error: "usage: program [text] [as-text]\n".into(), ..Printed::default() };
+    for arguments in ["texts", "tex", "--help", "text as-texts", "text as-text text", "a-much-longer-argument"] {
+        write(&format!("unknown {arguments}"), arguments, b"p1", &usage);
+    }
+}
+
+fn runs() -> Vec<(String, Run)> {
+    let mut runs: Vec<(String, Run)> = Vec::new();
+    let mut add = |name: String, text: bool, as_text: bool, input: Vec<u8>| runs.push((name, Run { text, as_text, input }));
+    for (name, input) in inputs() {
+        add(format!("{name}, as text"), false, true, input.clone());
+        add(name, false, false, input);
+    }
+    for (name, text) in typed() {
+        add(format!("text {name}"), true, false, text);
+    }
+    for (n, (_, table)) in (1..).zip(nested(2)) {
+        add(format!("nested {n}, as text"), false, true, bytes(&table));
+    }
+    // forms whose text is as long as any that is printed or counted, a byte shorter and a byte longer
+    for limit in [3, 512, 4_096, 1_048_576, 1_000_000_000_000] {
+        for length in limit - 1..=limit + 1 {
+            add(format!("text of {length} bytes, as text"), false, true, bytes(&with_text_of(length)));
+        }
+    }
+    for text in
+        ["p1", "!p1", " F p1\n", "(p1 W p2)\r\n", "(p1 W", "G(p1 -> (X!p2 M false))", "", "((p1 U p2) & ((p3 R p4) W p5))"]
+    {
+        add(format!("text {}, as text", text.escape_debug()), true, true, text.into());
+    }
+    runs
 }
 
 fn bytes(table: &[u32]) -> Vec<u8> {
     table.iter().flat_map(|word| word.to_le_bytes()).collect()
 }
 
-fn runs() -> Vec<(String, Vec<u8>)> {
-    let mut runs: Vec<(String, Vec<u8>)> = tables().into_iter().map(|(name, table)| (name, bytes(&table))).collect();
+/// Tables, and bytes that are none.
+fn inputs() -> Vec<(String, Vec<u8>)> {
+    let mut inputs: Vec<(String, Vec<u8>)> = tables().into_iter().map(|(name, table)| (name, bytes(&table))).collect();
     // bytes that are no whole words
     for over in 1..4 {
         for words in [0, 1, 2, 64, 65, 66, 2000] {
             let mut input = bytes(&chain_of_next(words));
             input.extend([0x30, 0, 0].iter().take(over));
-            runs.push((format!("{words} words and {over} bytes"), input));
+            inputs.push((format!("{words} words and {over} bytes"), input));
         }
     }
-    runs
+    inputs
+}
+
+/// Texts at the edges, and with one line end, with two, and with what only looks like one.
+fn typed() -> Vec<(String, Vec<u8>)> {
+    let mut typed: Vec<(String, Vec<u8>)> = (1..).zip(texts()).map(|(n, (_, text))| (format!("{n}"), text)).collect();
+    let ends: [&[u8]; 9] = [b"", b"\n", b"\r\n", b"\n\n", b"\r\n\r\n", b"\r", b"\n\r", b"\r\r\n", b" \n"];
+    let texts = [("empty", String::new()), ("letter", "p1".into()), ("1024 bytes", format!("{}p1", " ".repeat(1_022)))];
+    let others =
+        [("early", "(p1 U".into()), ("1025 bytes", format!("{}p1", " ".repeat(1_023))), ("5000 bytes", "(".repeat(5_000))];
+    for (name, text) in texts.into_iter().chain(others) {
+        for (n, end) in ends.iter().enumerate() {
+            typed.push((format!("{name} with end {n}"), [text.as_bytes(), end].concat()));
+        }
+    }
+    typed
+}
+
+/// A rule of and and X over one letter, which is its own form, with a text of so many bytes: a & a has 2 n + 5 where a has n.
+fn with_text_of(bytes: u64) -> Vec<u32> {
+    let mut table = match bytes {
+        2 => vec![0x3000_0001],
+        _ if bytes % 2 == 1 && bytes >= 9 => with_text_of((bytes - 5) / 2),
+        _ => with_text_of(bytes - 1),
+    };
+    let n = table.len();
+    match bytes {
+        2 => {}
+        _ if bytes % 2 == 1 && bytes >= 9 => table.push(Word::new(5, n, n).bits()),
+        _ => table.push(Word::new(7, 0, n).bits()),
+    }
+    table
 }
 
 fn tables() -> Vec<(String, Vec<u32>)> {

@@ -12,6 +12,7 @@ pub enum Step {
     Form,
     Judge,
     Row,
+    Text,
 }
 
 #[derive(Clone)]
@@ -57,6 +58,12 @@ impl Case {
         }
     }
 
+    /// Of a text, which is listed in place of a table: a word for each byte.
+    pub fn of_text(label: &str, text: &[u8], room: usize) -> Case {
+        let bytes: Vec<u32> = text.iter().map(|&byte| byte.into()).collect();
+        Case::new(label, Step::Text, &bytes, room)
+    }
+
     /// The case as the runner reads it (crates/cases/src/input.rt).
     pub fn words(&self) -> Vec<u32> {
         let (place, word) = self.replaced.unwrap_or((0, 0));
@@ -97,6 +104,12 @@ impl Case {
                 let mut bytes = vec![0xEE; 16_400];
                 let said = answer(&steps::classify(&table, &mut bytes[..self.room]));
                 format!("{said}{}", sum(bytes.iter().map(|&b| b.into())))
+            }
+            Step::Text => {
+                let text: Vec<u8> = table.iter().map(|&byte| u8::try_from(byte).expect("a byte")).collect();
+                let mut result = vec![0xEEEE_EEEE; 140];
+                let made = steps::text(&text, &mut result[..self.room]);
+                format!("{}, {}{}", answer(&made), made.unwrap_or(0), words(&result))
             }
             Step::Plain => {
                 let mut result = vec![0xEEEE_EEEE; 140];
@@ -156,7 +169,8 @@ fn record(seed: u32, n: usize) -> Vec<u32> {
     let mut x = seed as u64 % (1 << 31);
     let mut sample = || {
         x = (x * 1_103_515_245 + 12_345) % (1 << 31);
-        (x / 65_536 % 8 != 0) as u32 + 2 * (x / 524_288 % 64 == 0) as u32 + 4 * (x / 256 % 2) as u32
+        let (mostly, seldom) = (!(x / 65_536).is_multiple_of(8), (x / 524_288).is_multiple_of(64));
+        mostly as u32 + 2 * seldom as u32 + 4 * (x / 256 % 2) as u32
     };
     (0..n).map(|_| sample()).collect()
 }

@@ -88,6 +88,6 @@ fn denied(kind: u32, nots: usize) -> Vec<u32> {
 
 /// By turns, not of the word before, and it implies the one before that.
 fn not_and_implies(words: usize) -> Vec<u32> {
-    let word = |k: usize| if k == 1 || k % 2 == 0 { Word::new(12, 0, k) } else { Word::new(15, k, k - 1) };
+    let word = |k: usize| if k == 1 || k.is_multiple_of(2) { Word::new(12, 0, k) } else { Word::new(15, k, k - 1) };
     (0..words).map(|k| if k == 0 { 0x3000_0001 } else { word(k).bits() }).collect()
 }

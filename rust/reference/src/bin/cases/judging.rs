@@ -35,7 +35,9 @@ pub fn cases() -> Vec<Case> {
     let always = [0x30000001, 0xE0000001];
     let ones = |n: usize| Samples::Listed(vec![1; n]);
     let tally = |judged, held| Tally { judged, held };
-    let refused: [(&str, &[u32], usize, usize, usize, Tally); 11] = [
+    // name, table, samples, loop start, room, tally
+    type Refused<'a> = (&'a str, &'a [u32], usize, usize, usize, Tally);
+    let refused: [Refused; 11] = [
         ("13", &always, 0, 0, 100, tally(5, 2)),
         ("14", &always, 4097, 0, 200, tally(5, 2)),
         ("15", &always, 65, 65, 100, tally(5, 2)),

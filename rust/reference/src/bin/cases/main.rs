@@ -6,6 +6,7 @@ mod case;
 mod forms;
 mod judging;
 mod tables;
+mod texts;
 
 use case::Case;
 use std::{env, fs, path::Path};
@@ -13,7 +14,7 @@ use std::{env, fs, path::Path};
 fn main() {
     let folder = env::args().nth(1).expect("usage: cases FOLDER");
     let folder = Path::new(&folder);
-    let cases: Vec<Case> = [tables::cases(), forms::cases(), judging::cases()].concat();
+    let cases: Vec<Case> = [tables::cases(), forms::cases(), judging::cases(), texts::cases()].concat();
     if env::args().nth(2).is_some() {
         cases.iter().for_each(|case| println!("{}", case.label));
         return;

@@ -1,0 +1,12 @@
+-- An entry above the top.
+use native.Mathlib.Numerals.{add-one}
+use Rattle.scanning.proofs.Making.{top-push}
+use borrow.Author.Needs.{needs}
+use Rattle.scanning.proofs.reader.push.Statement.{statement}
+use Rattle.scanning.proofs.reader.push.Tie as tie
+
+returns : tie.Need-returns
+returns c = (rw add-one, top-push _ _ _ (c .pre))
+
+pub push-spec : {M : Type 1} → statement M
+push-spec = tie.close (tie.spec (search needs) (search needs) (search needs) (search needs) returns)

@@ -1,0 +1,189 @@
+-- The reader as the code has it: formulas are numbers of words in a table, and what is open is a stack of words, innermost first.
+use Prim.Native.Nat.{ℕ, zero, suc, _+_, _*_, _/_, _%_, _-_, _≤_, _<_}
+use mathlib.Core.Bool.{Bool, true, false, not, _&&_, _||_, cond}
+use mathlib.Core.Path.{_≡_}
+use mathlib.Core.List.{List, [], _∷_}
+use lib.ListN.{length, getD}
+use lib.Dec.{eqb, leb}
+use Rattle.logic.specs.Formula.{Formula, Unary, Binary}
+use Rattle.table.specs.Node.{kind, left, pack, unaryKind, binaryKind}
+use Rattle.table.specs.Numbering.{Placed, put}
+use Rattle.draft.specs.State as draft
+use Rattle.scanning.specs.declared.sign.Sign.{Sign}
+use Rattle.scanning.specs.declared.sign.Sign.the-variants.{Blank, Constant, Letter, Prefix, Operator, Open, Close, Unknown}
+use Rattle.scanning.specs.declared.reader.Turn.{Turn}
+use Rattle.scanning.specs.declared.reader.Turn.the-variants as turns
+use Rattle.scanning.specs.declared.reader.Reader.{Reader}
+use Rattle.scanning.specs.declared.reader.Operand.{Operand}
+use Rattle.grammar.specs.Grammar.{Symbol, constant, letter, prefix, operator, open-bracket, close-bracket}
+use Rattle.grammar.specs.Reader.{Mark, blank, begins, begins-letter, unknown, otherBytes, markOf, isDigit}
+
+-- bytes in one number, the first lowest
+abbrev pub packed : List ℕ → ℕ
+packed [] = 0
+packed (b ∷ bs) = b + 256 * packed bs
+
+abbrev pub signedSymbol : Symbol → Sign
+signedSymbol (constant b) = Constant (cond b 2 1) (packed (otherBytes (constant b)))
+signedSymbol (letter n) = Unknown
+signedSymbol (prefix o) = Prefix (unaryKind o)
+signedSymbol (operator o) = Operator (binaryKind o) (packed (otherBytes (operator o)))
+signedSymbol open-bracket = Open
+signedSymbol close-bracket = Close
+
+abbrev pub signed : Mark → Sign
+signed blank = Blank
+signed (begins x) = signedSymbol x
+signed begins-letter = Letter
+signed unknown = Unknown
+
+-- the kind of a sign is a kind of word
+abbrev pub Kinded : Sign → Type 0
+Kinded Blank = Unit {0}
+Kinded (Constant k left) = k < 16
+Kinded Letter = Unit {0}
+Kinded (Prefix k) = k < 16
+Kinded (Operator k left) = k < 16
+Kinded Open = Unit {0}
+Kinded Close = Unit {0}
+Kinded Unknown = Unit {0}
+
+-- the bytes that are left of a symbol, what may come next, what is open, and the words so far
+pub record Words : Type 0 where
+  pub left : ℕ
+  pub turn : Turn
+  pub stack : List ℕ
+  pub table : List ℕ
+
+abbrev pub words : ℕ → Turn → List ℕ → List ℕ → Words
+words l n s t = record { left = l; turn = n; stack = s; table = t }
+
+abbrev pub stuckWords : List ℕ → List ℕ → Words
+stuckWords s t = words 0 turns.Stuck s t
+
+abbrev pub isPrefix : ℕ → Bool
+isPrefix k = eqb k 7 || leb 12 k && leb k 14
+
+-- an operand that has ended: what is still open, and the operand's number in the words so far
+pub record Ended : Type 0 where
+  pub stack : List ℕ
+  pub placed : Placed
+
+abbrev pub endedWords : ℕ → Ended → Words
+endedWords l e = words l (turns.Ended (e .placed .number)) (e .stack) (e .placed .table)
+
+-- the words of the prefixes that wait for an operand are put
+unfoldable pub settleWords : List ℕ → Placed → Ended
+settleWords [] p = record { stack = []; placed = p }
+settleWords (e ∷ s) p =
+    cond (isPrefix (kind e)) (settleWords s (put (p .table) (pack (kind e) 0 (p .number)))) (record { stack = e ∷ s; placed = p })
+
+unfoldable pub beginWords : Sign → List ℕ → List ℕ → Words
+beginWords Blank s t = words 0 turns.Operand s t
+beginWords (Constant k l) s t = endedWords l (settleWords s (put t (pack k 0 0)))
+beginWords Letter s t = words 0 (turns.Letter 0) s t
+beginWords (Prefix k) s t = words 0 turns.Operand (pack k 0 0 ∷ s) t
+beginWords (Operator k l) s t = stuckWords s t
+beginWords Open s t = words 0 turns.Operand (0 ∷ s) t
+beginWords Close s t = stuckWords s t
+beginWords Unknown s t = stuckWords s t
+
+unfoldable pub joinWords : ℕ → ℕ → ℕ → List ℕ → List ℕ → Words
+joinWords k l n [] t = stuckWords [] t
+joinWords k l n (e ∷ s) t = cond (eqb e 0) (words l turns.Operand (pack k n 0 ∷ s) t) (stuckWords (e ∷ s) t)
+
+unfoldable pub closeWords : ℕ → List ℕ → List ℕ → Words
+closeWords n [] t = stuckWords [] t
+closeWords n (e ∷ s) t =
+    cond (eqb e 0) (stuckWords (e ∷ s) t)
+    (cond (isPrefix (kind e)) (stuckWords (e ∷ s) t) (endedWords 0 (settleWords s (put t (pack (kind e) (left e) n)))))
+
+unfoldable pub followWords : Sign → ℕ → List ℕ → List ℕ → Words
+followWords Blank n s t = words 0 (turns.Ended n) s t
+followWords (Constant k l) n s t = stuckWords s t
+followWords Letter n s t = stuckWords s t
+followWords (Prefix k) n s t = stuckWords s t
+followWords (Operator k l) n s t = joinWords k l n s t
+followWords Open n s t = stuckWords s t
+followWords Close n s t = closeWords n s t
+followWords Unknown n s t = stuckWords s t
+
+abbrev pub followEnded : Sign → Ended → Words
+followEnded x e = followWords x (e .placed .number) (e .stack) (e .placed .table)
+
+unfoldable pub digitWords : ℕ → List ℕ → List ℕ → Words
+digitWords m s t = cond (leb 1 m && leb m 32) (words 0 (turns.Letter m) s t) (stuckWords s t)
+
+unfoldable pub letterWords : ℕ → ℕ → List ℕ → List ℕ → Words
+letterWords n b s t =
+    cond (isDigit b) (digitWords (10 * n + (b - 48)) s t)
+    (cond (eqb n 0) (stuckWords s t) (followEnded (signed (markOf b)) (settleWords s (put t (pack 3 0 n)))))
+
+abbrev pub turnWords : Turn → ℕ → List ℕ → List ℕ → Words
+turnWords turns.Operand b s t = beginWords (signed (markOf b)) s t
+turnWords (turns.Letter n) b s t = letterWords n b s t
+turnWords (turns.Ended n) b s t = followWords (signed (markOf b)) n s t
+turnWords turns.Stuck b s t = stuckWords s t
+
+-- one byte
+unfoldable pub stepWords : Words → ℕ → Words
+stepWords y b =
+    cond (eqb (y .left) 0) (turnWords (y .turn) b (y .stack) (y .table))
+    (cond (eqb (y .left % 256) b) (words (y .left / 256) (y .turn) (y .stack) (y .table)) (stuckWords (y .stack) (y .table)))
+
+-- the first entries of a slice, the last of them first
+abbrev pub topFirst : List ℕ → ℕ → List ℕ
+topFirst l zero = []
+topFirst l (suc d) = getD l d 0 ∷ topFirst l d
+
+-- what the code holds
+abbrev pub viewed : Reader → List ℕ → draft.State → Words
+viewed r stack s = words (r .left) (r .turn) (topFirst stack (r .depth)) (draft.written s)
+
+-- numbers that fit their fields
+abbrev pub Fit : Turn → Type 0
+Fit turns.Operand = Unit {0}
+Fit (turns.Letter n) = n ≤ 32
+Fit (turns.Ended n) = n ≤ 1025
+Fit turns.Stuck = Unit {0}
+
+-- the operand's number, in the words so far
+abbrev pub placedIn : draft.State → ℕ → Placed
+placedIn s n = record { table = draft.written s; number = n }
+
+-- room for what is open and for the words, each of which took a byte, and for so many words more
+pub record Room (stack : List ℕ) (s : draft.State) (depth more : ℕ) : Type 0 where
+  pub numbered : draft.Numbered s
+  pub long : length stack ≡ 1025
+  pub wide : length (s .out) ≡ 1025
+  pub room : depth + draft.count s + more ≤ 1025
+
+-- the operand o, with its stack and its table, is x; no more room is taken than there was
+pub record Settles (stack : List ℕ) (e : draft.State) (depth room : ℕ) (o : Operand) (x : Ended) : Type 0 where
+  pub numbered : draft.Numbered e
+  pub small : o .number ≤ 1025
+  pub same : record { stack = topFirst stack (o .depth); placed = placedIn e (o .number) } ≡ x
+  pub shallow : o .depth ≤ depth
+  pub few : o .depth + draft.count e ≤ room
+
+-- what a step is to make, and keeps
+pub record Makes (r : Reader) (stack : List ℕ) (s : draft.State) (y : Words) : Type 0 where
+  pub numbered : draft.Numbered s
+  pub fit : Fit (r .turn)
+  pub same : viewed r stack s ≡ y
+
+-- what is open and the words, which a byte makes more by one at most
+abbrev pub size : Words → ℕ
+size y = length (y .stack) + length (y .table)
+
+abbrev pub isStuck : Turn → Bool
+isStuck turns.Operand = false
+isStuck (turns.Letter n) = false
+isStuck (turns.Ended n) = false
+isStuck turns.Stuck = true
+
+abbrev pub isEnded : Turn → Bool
+isEnded turns.Operand = false
+isEnded (turns.Letter n) = false
+isEnded (turns.Ended n) = true
+isEnded turns.Stuck = false

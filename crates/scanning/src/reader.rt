@@ -1,0 +1,334 @@
+// One byte of a text: what it makes of the stack of what is open and of the words so far.
+// The stack holds a word for each prefix and each operator whose right operand is not yet read, and 0 for a bracket without an operator.
+use crate::sign;
+use crate::sign::Sign;
+use draft::put;
+use table::word;
+ghost use mathlib.Core.Path.{_≡_};
+ghost use mathlib.Core.List.{List, _∷_};
+ghost use Prim.Native.Nat.{ℕ, _+_, _*_, _-_, _≤_, _<_, suc};
+ghost use lib.ListN.{length};
+ghost use Rattle.table.specs.Numbering as numbering;
+ghost use Rattle.draft.specs.State.{state, written, count};
+ghost use Rattle.grammar.specs.Reader as machine;
+ghost use Rattle.scanning.specs.Numbers as numbers;
+
+// What may come next: an operand; the digits after p, with the number so far; what follows an operand, with its number; or nothing.
+pub enum Turn {
+    Operand,
+    Letter(u32),
+    Ended(usize),
+    Stuck,
+}
+
+// `left` has the bytes that a symbol still lacks, the next one lowest.
+pub struct Reader {
+    pub left: u32,
+    pub turn: Turn,
+    pub depth: usize,
+}
+
+// An operand that has ended: its number, and how much of the stack is left.
+pub struct Operand {
+    pub number: usize,
+    pub depth: usize,
+}
+
+fn is_prefix(kind: u32) -> bool
+    ensures { λ r. ⌜ r ≡ numbers.isPrefix kind ⌝ }
+{
+    kind == 7 || 12 <= kind && kind <= 14
+}
+
+fn is_digit(b: u8) -> bool
+    ensures { λ r. ⌜ r ≡ machine.isDigit b ⌝ }
+{
+    48 <= b && b <= 57
+}
+
+// An operand has ended: the words of the prefixes that wait for it are put.
+fn settle(stack: &[u32], depth: usize, out: &mut [u32], index: &mut [u16], n: usize) -> Operand
+    requires { ⌜ numbers.Room (now stack) (state (now out) (now index)) depth 0 ⌝ }
+    requires { ⌜ n ≤ 1025 ⌝ }
+    ensures { λ r. ⌜ numbers.Settles
+        (now (stack .entry))
+        (state (now (out .exit)) (now (index .exit)))
+        depth
+        (depth + count (state (now (out .entry)) (now (index .entry))))
+        r
+        (numbers.settleWords
+        (numbers.topFirst (now (stack .entry)) depth)
+        (numbers.placedIn (state (now (out .entry)) (now (index .entry))) n)) ⌝ }
+{
+    let mut number = n;
+    let mut top = depth;
+    while 0 < top {
+        let kind = word::kind(stack[top - 1]);
+        if !is_prefix(kind) {
+            return Operand { number, depth: top };
+        }
+        number = put::put(&mut *out, &mut *index, word::pack(kind, 0, number));
+        top -= 1;
+    }
+    Operand { number, depth: 0 }
+}
+
+// An operand ends with the word w.
+fn end(stack: &[u32], depth: usize, out: &mut [u32], index: &mut [u16], w: u32) -> Operand
+    requires { ⌜ numbers.Room (now stack) (state (now out) (now index)) depth 1 ⌝ }
+    ensures { λ r. ⌜ numbers.Settles
+        (now (stack .entry))
+        (state (now (out .exit)) (now (index .exit)))
+        depth
+        (suc (depth + count (state (now (out .entry)) (now (index .entry)))))
+        r
+        (numbers.settleWords
+        (numbers.topFirst (now (stack .entry)) depth)
+        (numbering.put (written (state (now (out .entry)) (now (index .entry)))) w)) ⌝ }
+{
+    let n = put::put(&mut *out, &mut *index, w);
+    settle(stack, depth, out, index, n)
+}
+
+// No rule can come of it any more.
+fn stuck(depth: usize) -> Reader
+    ensures { λ r. ⌜ r ≡ record { left = 0; turn = Turn.Stuck; depth = depth } ⌝ }
+{
+    Reader {
+        left: 0,
+        turn: Turn::Stuck,
+        depth,
+    }
+}
+
+// One entry more, and an operand is to begin.
+fn push(stack: &mut [u32], depth: usize, e: u32) -> Reader
+    requires { ⌜ depth < length (now stack) ⌝ }
+    ensures { λ r. ⌜ (r ≡ record { left = 0; turn = Turn.Operand; depth = suc depth })
+        × (numbers.topFirst (now (stack .exit)) (suc depth) ≡ e ∷ numbers.topFirst (now (stack .entry)) depth) ⌝ }
+{
+    stack[depth] = e;
+    Reader {
+        left: 0,
+        turn: Turn::Operand,
+        depth: depth + 1,
+    }
+}
+
+// A sign where an operand is to begin.
+fn begin(sign: Sign, stack: &mut [u32], depth: usize, out: &mut [u32], index: &mut [u16]) -> Reader
+    requires { ⌜ numbers.Room (now stack) (state (now out) (now index)) depth 1 ⌝ }
+    requires { ⌜ numbers.Kinded sign ⌝ }
+    ensures { λ r. ⌜ numbers.Makes
+        r
+        (now (stack .exit))
+        (state (now (out .exit)) (now (index .exit)))
+        (numbers.beginWords
+        sign
+        (numbers.topFirst (now (stack .entry)) depth)
+        (written (state (now (out .entry)) (now (index .entry))))) ⌝ }
+{
+    match sign {
+        Sign::Blank => Reader {
+            left: 0,
+            turn: Turn::Operand,
+            depth,
+        },
+        Sign::Constant(kind, left) => {
+            let o = end(&*stack, depth, out, index, word::pack(kind, 0, 0));
+            Reader {
+                left,
+                turn: Turn::Ended(o.number),
+                depth: o.depth,
+            }
+        }
+        Sign::Letter => Reader {
+            left: 0,
+            turn: Turn::Letter(0),
+            depth,
+        },
+        Sign::Prefix(kind) => push(stack, depth, word::pack(kind, 0, 0)),
+        Sign::Operator(_, _) => stuck(depth),
+        Sign::Open => push(stack, depth, 0),
+        Sign::Close => stuck(depth),
+        Sign::Unknown => stuck(depth),
+    }
+}
+
+// A two-sided operator after an operand, which must be the first in its bracket.
+fn join(kind: u32, left: u32, n: usize, stack: &mut [u32], depth: usize) -> Reader
+    requires { ⌜ (kind < 16) × (n ≤ 1025) × (depth ≤ length (now stack)) ⌝ }
+    ensures { λ r. ⌜ ((t : List ℕ) → numbers.words (r .left) (r .turn) (numbers.topFirst (now (stack .exit)) (r .depth)) t
+        ≡ numbers.joinWords kind left n (numbers.topFirst (now (stack .entry)) depth) t)
+        × numbers.Fit (r .turn) ⌝ }
+{
+    if depth == 0 {
+        return stuck(depth);
+    }
+    let top = depth - 1;
+    if stack[top] != 0 {
+        return stuck(depth);
+    }
+    stack[top] = word::pack(kind, n, 0);
+    Reader {
+        left,
+        turn: Turn::Operand,
+        depth,
+    }
+}
+
+// A closing bracket after an operand, which must be the second in its bracket.
+fn close(n: usize, stack: &[u32], depth: usize, out: &mut [u32], index: &mut [u16]) -> Reader
+    requires { ⌜ numbers.Room (now stack) (state (now out) (now index)) depth 0 ⌝ }
+    requires { ⌜ n ≤ 1025 ⌝ }
+    ensures { λ r. ⌜ numbers.Makes
+        r
+        (now (stack .entry))
+        (state (now (out .exit)) (now (index .exit)))
+        (numbers.closeWords
+        n
+        (numbers.topFirst (now (stack .entry)) depth)
+        (written (state (now (out .entry)) (now (index .entry))))) ⌝ }
+{
+    if depth == 0 {
+        return stuck(depth);
+    }
+    let top = depth - 1;
+    let e = stack[top];
+    if e == 0 {
+        return stuck(depth);
+    }
+    let kind = word::kind(e);
+    if is_prefix(kind) {
+        return stuck(depth);
+    }
+    let o = end(stack, top, out, index, word::pack(kind, word::left(e), n));
+    Reader {
+        left: 0,
+        turn: Turn::Ended(o.number),
+        depth: o.depth,
+    }
+}
+
+// A sign after an operand.
+fn follow(
+    sign: Sign,
+    n: usize,
+    stack: &mut [u32],
+    depth: usize,
+    out: &mut [u32],
+    index: &mut [u16],
+) -> Reader
+    requires { ⌜ numbers.Room (now stack) (state (now out) (now index)) depth 0 ⌝ }
+    requires { ⌜ numbers.Kinded sign × (n ≤ 1025) ⌝ }
+    ensures { λ r. ⌜ numbers.Makes
+        r
+        (now (stack .exit))
+        (state (now (out .exit)) (now (index .exit)))
+        (numbers.followWords
+        sign
+        n
+        (numbers.topFirst (now (stack .entry)) depth)
+        (written (state (now (out .entry)) (now (index .entry))))) ⌝ }
+{
+    match sign {
+        Sign::Blank => Reader {
+            left: 0,
+            turn: Turn::Ended(n),
+            depth,
+        },
+        Sign::Constant(_, _) => stuck(depth),
+        Sign::Letter => stuck(depth),
+        Sign::Prefix(_) => stuck(depth),
+        Sign::Operator(kind, left) => join(kind, left, n, stack, depth),
+        Sign::Open => stuck(depth),
+        Sign::Close => close(n, &*stack, depth, out, index),
+        Sign::Unknown => stuck(depth),
+    }
+}
+
+// A digit after p and the number so far: the letters are 1 to 32.
+fn digit(n: u32, b: u8, depth: usize) -> Reader
+    requires { ⌜ (n ≤ 32) × (48 ≤ b) × (b ≤ 57) ⌝ }
+    ensures { λ r. ⌜ ((s t : List ℕ) → numbers.words (r .left) (r .turn) s t ≡ numbers.digitWords (10 * n + (b - 48)) s t)
+        × numbers.Fit (r .turn)
+        × (r .depth ≡ depth) ⌝ }
+{
+    let m = 10 * n + (b as u32 - 48);
+    if m == 0 {
+        return stuck(depth);
+    }
+    if 32 < m {
+        return stuck(depth);
+    }
+    Reader {
+        left: 0,
+        turn: Turn::Letter(m),
+        depth,
+    }
+}
+
+// A byte after p and the number so far.
+fn letter(
+    n: u32,
+    b: u8,
+    stack: &mut [u32],
+    depth: usize,
+    out: &mut [u32],
+    index: &mut [u16],
+) -> Reader
+    requires { ⌜ numbers.Room (now stack) (state (now out) (now index)) depth 1 ⌝ }
+    requires { ⌜ n ≤ 32 ⌝ }
+    ensures { λ r. ⌜ numbers.Makes
+        r
+        (now (stack .exit))
+        (state (now (out .exit)) (now (index .exit)))
+        (numbers.letterWords
+        n
+        b
+        (numbers.topFirst (now (stack .entry)) depth)
+        (written (state (now (out .entry)) (now (index .entry))))) ⌝ }
+{
+    if is_digit(b) {
+        return digit(n, b, depth);
+    }
+    if n == 0 {
+        return stuck(depth);
+    }
+    let w = word::pack(3, 0, n as usize);
+    let o = end(&*stack, depth, &mut *out, &mut *index, w);
+    follow(sign::sign_of(b), o.number, stack, o.depth, out, index)
+}
+
+// One byte: of a symbol that lacks some, or by what may come next.
+pub fn step(r: Reader, stack: &mut [u32], out: &mut [u32], index: &mut [u16], b: u8) -> Reader
+    requires { ⌜ numbers.Room (now stack) (state (now out) (now index)) (r .depth) 1 ⌝ }
+    requires { ⌜ numbers.Fit (r .turn) ⌝ }
+    ensures { λ q. ⌜ numbers.Makes
+        q
+        (now (stack .exit))
+        (state (now (out .exit)) (now (index .exit)))
+        (numbers.stepWords
+        (numbers.viewed r (now (stack .entry)) (state (now (out .entry)) (now (index .entry))))
+        b) ⌝ }
+{
+    let left = r.left;
+    let turn = r.turn;
+    let depth = r.depth;
+    if left != 0 {
+        if left % 256 != b as u32 {
+            return stuck(depth);
+        }
+        return Reader {
+            left: left / 256,
+            turn,
+            depth,
+        };
+    }
+    match turn {
+        Turn::Operand => begin(sign::sign_of(b), stack, depth, out, index),
+        Turn::Letter(n) => letter(n, b, stack, depth, out, index),
+        Turn::Ended(n) => follow(sign::sign_of(b), n, stack, depth, out, index),
+        Turn::Stuck => stuck(depth),
+    }
+}

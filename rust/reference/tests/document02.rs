@@ -1,0 +1,42 @@
+//! Document 02's sentences about texts (N1), held to the reference itself.
+use reference::checks::Refusal;
+use reference::steps::text;
+
+/// The words of a text, or its refusal's number and place, with so much room.
+fn read(typed: &str, room: usize) -> Result<Vec<u32>, (u32, usize)> {
+    let mut result = vec![7; room];
+    let made = text(typed.as_bytes(), &mut result);
+    match made {
+        Ok(words) => assert!(result[words..].iter().all(|&word| word == 7)),
+        Err(Refusal { number: 12, .. }) => assert!(result.iter().all(|&word| word == 0)),
+        Err(_) => assert!(result.iter().all(|&word| word == 7)),
+    }
+    made.map(|words| result[..words].to_vec()).map_err(|Refusal { number, place }| (number, place))
+}
+
+#[test]
+fn numbered_by_first_need_with_sharing() {
+    assert_eq!(read("!p1", 64), Ok(vec![0x3000_0001, 0xC000_0001]));
+    assert_eq!(read("(p2 -> p1)", 64), Ok(vec![0x3000_0002, 0x3000_0001, 0xF000_4002]));
+    assert_eq!(read("((p1 & p1) U (p1 & p1))", 64), Ok(vec![0x3000_0001, 0x5000_4001, 0x8000_8002]));
+    assert_eq!(read(" ( G true|Ffalse ) ", 64), Ok(vec![0x2000_0000, 0xE000_0001, 0x1000_0000, 0xD000_0003, 0x6000_8004]));
+    let every = "(((p1 & p2) | (p3 U p4)) -> ((p5 W p6) R (p7 M X!p8)))";
+    let kinds: Vec<u32> = read(every, 64).expect("a rule").iter().map(|word| word >> 28).collect();
+    assert_eq!(kinds, [3, 3, 5, 3, 3, 8, 6, 3, 3, 9, 3, 3, 12, 7, 11, 10, 15]);
+}
+
+#[test]
+fn the_order_of_refusals() {
+    let prefixes = |n: usize| format!("{}p1", "X".repeat(n));
+    // 20 is checked first, then 19, then 2, then 12
+    assert_eq!(read(&prefixes(1_023), 0), Err((20, 0)));
+    assert_eq!(read(&"x".repeat(1_025), 64), Err((20, 0)));
+    assert_eq!(read(&"x".repeat(1_024), 64), Err((19, 1)));
+    assert_eq!(read(&format!("{})", prefixes(69)), 10), Err((19, 72)));
+    assert_eq!(read(&prefixes(69), 10), Err((2, 0)));
+    assert_eq!(read(&prefixes(19), 10), Err((12, 0)));
+    assert_eq!(read(&prefixes(64), 64), Err((2, 0)));
+    assert_eq!(read(&prefixes(63), 64).map(|words| words.len()), Ok(64));
+    assert_eq!(read(&prefixes(63), 63), Err((12, 0)));
+    assert_eq!(read("", 0), Err((19, 1)));
+}
