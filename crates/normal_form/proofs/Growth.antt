@@ -12,7 +12,7 @@ use Rattle.draft.specs.State.{State, written, Numbered, Placing, Putting}
 use Rattle.draft.specs.Numberable.{Numberable}
 use Rattle.draft.proofs.Placing.{placing-written, placing-answer, placing-full, placing-grows, placing-reached, placing-on, build-positive}
 use Rattle.draft.proofs.Remembering.{remembered-none}
-use Rattle.normal_form.specs.Filled.{Rootable}
+use Rattle.filling.specs.Filled.{Rootable}
 use Rattle.normal_form.specs.Growing.{Grown, Ready}
 
 -- a draft is numbered from no numbers

@@ -13,8 +13,8 @@ use Rattle.logic.specs.NormalForm.{isFixpoint, keep, normalForm}
 use Rattle.logic.specs.Formula.{Formula}
 use Rattle.table.specs.Table.{formulas, rule}
 use Rattle.table.proofs.Formulas.{length-formulas}
-use Rattle.normal_form.specs.Filled.{draftSize}
-use Rattle.normal_form.specs.Weights.{Weighed}
+use Rattle.filling.specs.Filled.{draftSize}
+use Rattle.fixpoints.specs.Weights.{Weighed}
 use Rattle.table.specs.Numbering.{build, tableOf, fits}
 use Rattle.table.specs.Steps.{fixpoints, normalTable}
 use Rattle.draft.specs.State.{State, state, count, written, Placing}

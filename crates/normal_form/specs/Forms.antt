@@ -8,8 +8,8 @@ use Rattle.table.specs.declared.refusal.Outcome.the-variants as outcome
 use Rattle.table.specs.Checks.{checked}
 use Rattle.table.specs.Numbering.{room, fits}
 use Rattle.table.specs.Steps.{fixpoints, normalTable}
-use Rattle.normal_form.specs.Weights.{Weighed}
-use Rattle.normal_form.specs.Filled.{draftSize}
+use Rattle.fixpoints.specs.Weights.{Weighed}
+use Rattle.filling.specs.Filled.{draftSize}
 
 -- the most words of a form of n words of which k are until-like
 abbrev pub mostWords : ℕ → ℕ → ℕ

@@ -11,7 +11,7 @@ use Rattle.table.specs.Numbering.{build}
 use Rattle.table.specs.Table.{rule}
 use Rattle.table.specs.Steps.{fixpoints}
 use Rattle.draft.specs.State.{State, written, Numbered, Placing}
-use Rattle.normal_form.specs.Filled.{Fillable}
+use Rattle.filling.specs.Filled.{Fillable}
 
 -- a formula, or the parts of choices, joined from the left
 abbrev pub disjoined : List ℕ → List ℕ → Formula → Formula

@@ -1,7 +1,7 @@
 // The parts of all choices, fewer chosen words first and equal counts by lower number, joined by or.
-use crate::kinds;
 use crate::part;
 use draft::put;
+use table::kinds;
 use table::word;
 ghost use Prim.Native.Nat.{suc, _<_};
 ghost use mathlib.Core.Path.{_≡_};

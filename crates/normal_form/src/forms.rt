@@ -1,6 +1,5 @@
 // The form in as much of the result as it can need, with an index and a draft of the size that it can need.
 use crate::choices;
-use crate::fixpoints;
 ghost use Prim.Native.Nat.{_+_, _*_, _^_, _≤_, _<_, min};
 ghost use lib.ListN.{length};
 ghost use mathlib.Core.Path.{_≡_};

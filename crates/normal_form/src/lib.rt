@@ -10,13 +10,8 @@ ghost use Rattle.table.specs.Limits.{desk};
 ghost use Rattle.table.specs.Frame.{normalStep, answerOf, resultOf};
 
 mod choices;
-mod conjuncts;
-mod filling;
-mod fixpoints;
 mod forms;
-mod kinds;
 mod part;
-mod rewriting;
 
 pub fn normalise(table: &[u32], result: &mut [u32]) -> Answer
     ensures { λ r. ⌜ r ≡ answerOf (normalStep desk) (now (table .entry)) (length (now (result .entry))) ⌝ }

@@ -1,5 +1,4 @@
 // The part of a choice: drafted, then numbered.
-use crate::filling;
 use draft::number;
 ghost use Prim.Native.Nat.{_≤_};
 ghost use lib.ListN.{length};
@@ -9,7 +8,7 @@ ghost use Rattle.table.specs.Numbering.{build};
 ghost use Rattle.table.specs.Table.{rule};
 ghost use Rattle.table.specs.Steps as steps;
 ghost use Rattle.draft.specs.State.{state, written, Numbered, Placing};
-ghost use Rattle.normal_form.specs.Filled.{Rootable, Placed};
+ghost use Rattle.filling.specs.Filled.{Rootable, Placed};
 ghost use Rattle.normal_form.specs.Growing.{Ready};
 
 // Numbers the root of a short draft.

@@ -2,6 +2,7 @@
 pub mod First
 pub mod Fields
 pub mod Shapes
+pub mod KindRanges
 pub mod Formulas
 pub mod Accepted
 pub mod Frame

@@ -1,0 +1,18 @@
+use native.Mathlib.Omega.{arith}
+use borrow.Author.Needs.{needs}
+use Rattle.filling.proofs.Places.{place-fits}
+use Rattle.filling.proofs.rewriting.next.Statement.{statement}
+use Rattle.filling.proofs.rewriting.next.Tie as tie
+
+pack-requires : tie.Need-pack-requires
+pack-requires c κs = (
+  omega arith,
+  omega arith,
+  rw (c .place .ensures, c .before .right .ensures) (place-fits (c .before .before .args .rewriting) _ _ (c .before .before .pre .right-fits)),
+)
+
+returns : tie.Need-returns
+returns c = cc
+
+pub next-spec : {M : Type 1} → statement M
+next-spec = tie.close (tie.spec (search needs) (search needs) pack-requires returns)

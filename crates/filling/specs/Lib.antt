@@ -1,0 +1,4 @@
+-- A choice's draft: the slots of each word's forms, and the conjuncts after them.
+pub mod Slots
+pub mod Filled
+pub mod Conjunct
