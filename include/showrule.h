@@ -82,8 +82,8 @@ uint32_t showrule_classify(const uint32_t *table, size_t words, uint8_t *bytes, 
  *   2   the table has over 64 words.
  *   12  it is longer than the result.
  * Accepted, *table_words is its length, its words, numbered by first need with sharing, are the first of the result, and later words
- * stay; 64 words are always enough. Refused by 12, every word of the result is 0; refused otherwise, it is as it was. Refused,
- * *table_words is 0. */
+ * stay; 64 words are always enough. It passes checks 1 to 10. Refused by 12, every word of the result is 0; refused otherwise, it is as
+ * it was. Refused, *table_words is 0. */
 uint32_t showrule_text(const uint8_t *text, size_t bytes, uint32_t *result, size_t room, size_t *table_words, size_t *place);
 
 /* The plain form of a written table of at most 64 words, checks 1 to 10 and 12. Accepted, *form_words is its length, its words are the

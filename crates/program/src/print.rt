@@ -66,8 +66,12 @@ fn too_long(bytes: u64) {
     io::write_all(2, b" that are printed\n");
 }
 
+// A form of at most 4,096 words, unless its text is too long.
 fn counted(form: &[u32], n: usize) {
     let mut sizes = [0u64; 4096];
+    if 4096 < form.len() {
+        return;
+    }
     let bytes = typed::sizes(form, &mut sizes);
     if MOST < bytes {
         too_long(bytes);
