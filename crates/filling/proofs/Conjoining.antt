@@ -20,14 +20,14 @@ use Rattle.filling.specs.declared.rewriting.Rewriting.the-variants.{Stea
 use Rattle.filling.specs.declared.conjuncts.Fixpoint.{Fixpoint}
 use Rattle.filling.specs.declared.conjuncts.Fixpoint.the-variants.{Least, Greatest}
 use Rattle.filling.specs.Slots.{place, wordBy}
-use Rattle.fixpoints.specs.Weights.{Chosen, digit, bitOf}
+use Rattle.fixpoints.specs.Positions.{digit, bitOf}
 use Rattle.filling.specs.Filled.{formOf, Fillable, Filled}
 use Rattle.filling.specs.Conjunct.{picks, membersOf, conjunctOf, conjoined, formSlot, innerSlot, outerSlot, Conjoinable, Conjoined, Joinable, Joined}
 use Rattle.filling.proofs.Places.{place-fits}
 use Rattle.normal_laws.proofs.Chosen.{keep-append, members-few}
-use Rattle.fixpoints.proofs.UntilLike.{chosen-append, fixpoints-step}
+use Rattle.fixpoints.proofs.UntilLike.{chosen-append, fixpoints-step, bits-before}
 use Rattle.filling.proofs.Members.{members-picked, picked-word}
-use Rattle.filling.proofs.WordByWord.{slot-at, filled-later, weighed-bit}
+use Rattle.filling.proofs.WordByWord.{slot-at, filled-later, kept-bit}
 
 -- the members among the words so far and one more
 module _ {t : List ℕ} {limit : ℕ} (f : WellFormed true limit t) (i : ℕ) (h : i < length t) (x : Fixpoint) (c : ℕ) where
@@ -37,6 +37,7 @@ module _ {t : List ℕ} {limit : ℕ} (f : WellFormed true limit t) (i : ℕ) (h
       members-picked x (take (suc i) t) c
       ∙ ap (λ (ψs : List Formula). keep (picks x) (chosen ψs c)) (fixpoints-step f i h)
       ∙ ap (keep (picks x)) (chosen-append (fixpoints (take i t)) _ c)
+      ∙ ap (λ (b : ℕ). keep (picks x) (chosen (fixpoints (take i t)) c ++ chosen (cond (isFixpointWord (getD t i 0)) (getD (formulas t) i (const false) ∷ []) []) (c / 2 ^ b))) (bits-before f i (omega arith))
       ∙ keep-append (picks x) (chosen (fixpoints (take i t)) c) _
       ∙ rw (members-picked x (take i t) c)
 
@@ -98,7 +99,7 @@ form-place : (x : Fixpoint) (j n : ℕ) → place Opening j < n → formSlot x j
 form-place Least j n h = place-fits Recurring j n h
 form-place Greatest j n h = place-fits Steady j n h
 
-module _ {x : Fixpoint} {t weights : List ℕ} {c : ℕ} {d : List ℕ} {first : ℕ} (q : Joinable x t weights c d first) where
+module _ {x : Fixpoint} {t positions : List ℕ} {c : ℕ} {d : List ℕ} {first : ℕ} (q : Joinable x t positions c d first) where
   well-formed : WellFormed true (q .limit) t
   well-formed = accepted-well-formed true (q .limit) t (q .accepted)
 
@@ -126,9 +127,9 @@ module _ {x : Fixpoint} {t weights : List ℕ} {c : ℕ} {d : List ℕ} {first :
     unfolding ψ
     told g e = ap (picks x) (accepted-formula well-formed i h) ∙ sym (g _ _) ∙ e
 
-    bit : {r b : Bool} → picks x ψ ≡ true → Chosen weights c (i + 1) r → r ≡ b → digit c (bitOf t i) ≡ b
+    bit : {r b : Bool} → r ≡ digit c (getD positions (i + 1) 0) → r ≡ b → digit c (bitOf t i) ≡ b
     unfolding ψ
-    bit p g e = sym (weighed-bit (q .weighed) h g (picked-word well-formed i h x p)) ∙ e
+    bit g e = sym (kept-bit c (q .kept) h g) ∙ e
 
     later : first ≤ next
     later = omega (arith, s .after)
@@ -146,15 +147,15 @@ module _ {x : Fixpoint} {t weights : List ℕ} {c : ℕ} {d : List ℕ} {first :
     unfolding ψ
     joining-other g z = same (members-other well-formed i h x c (told g z))
 
-    pub joining-left : {r o : Bool} → ((a b : Formula) → r ≡ picks x (wordBy (getD t i 0) a b)) → r ≡ true → Chosen weights c (i + 1) o → o ≡ false
+    pub joining-left : {r o : Bool} → ((a b : Formula) → r ≡ picks x (wordBy (getD t i 0) a b)) → r ≡ true → o ≡ digit c (getD positions (i + 1) 0) → o ≡ false
         → Joining x t c d first e next (i + 1)
     unfolding ψ
-    joining-left g z k y = same (members-left well-formed i h x c (told g z) (bit (told g z) k y))
+    joining-left g z k y = same (members-left well-formed i h x c (told g z) (bit k y))
 
-    module _ {r o : Bool} (g : (a b : Formula) → r ≡ picks x (wordBy (getD t i 0) a b)) (z : r ≡ true) (k : Chosen weights c (i + 1) o) (y : o ≡ true) where
+    module _ {r o : Bool} (g : (a b : Formula) → r ≡ picks x (wordBy (getD t i 0) a b)) (z : r ≡ true) (k : o ≡ digit c (getD positions (i + 1) 0)) (y : o ≡ true) where
       more : membersOf x (take (suc i) t) c ≡ membersOf x (take i t) c ++ (ψ ∷ [])
       unfolding ψ
-      more = members-taken well-formed i h x c (told g z) (bit (told g z) k y)
+      more = members-taken well-formed i h x c (told g z) (bit k y)
 
       more-length : length (membersOf x (take (suc i) t) c) ≡ length (membersOf x (take i t) c) + 1
       more-length = rw (more, length-append)
@@ -198,12 +199,12 @@ module _ {x : Fixpoint} {t weights : List ℕ} {c : ℕ} {d : List ℕ} {first :
               )
 
 -- the opening form of the rule, and all conjuncts
-module _ {t weights : List ℕ} {c : ℕ} {d : List ℕ} (q : Fillable t weights d) where
-  pub joinable-least : {d₁ : List ℕ} → length d₁ ≡ length d → Filled t c d₁ (length t) → Joinable Least t weights c d₁ (5 * length t + 5)
+module _ {t positions : List ℕ} {c : ℕ} {d : List ℕ} (q : Fillable t positions d) where
+  pub joinable-least : {d₁ : List ℕ} → length d₁ ≡ length d → Filled t c d₁ (length t) → Joinable Least t positions c d₁ (5 * length t + 5)
   joinable-least l f = record {
     limit = q .limit;
     accepted = q .accepted;
-    weighed = q .weighed;
+    kept = q .kept;
     filled = f;
     past-words = omega arith;
     long = omega (arith, q .long, members-few (fixpoints t) c);
@@ -211,11 +212,11 @@ module _ {t weights : List ℕ} {c : ℕ} {d : List ℕ} (q : Fillable t weights
   }
 
   module _ {d₁ d₂ : List ℕ} {r₁ : ℕ} (l : length d₁ ≡ length d) (f : Filled t c d₁ (length t)) (j : Joined Least t c d₁ (5 * length t + 5) d₂ r₁) where
-    pub joinable-greatest : Joinable Greatest t weights c d₂ r₁
+    pub joinable-greatest : Joinable Greatest t positions c d₂ r₁
     joinable-greatest = record {
       limit = q .limit;
       accepted = q .accepted;
-      weighed = q .weighed;
+      kept = q .kept;
       filled = j .filled;
       past-words = omega (arith, j .after);
       long = omega (arith, q .long, j .after, j .long, members-few (fixpoints t) c);

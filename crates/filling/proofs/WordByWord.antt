@@ -26,7 +26,7 @@ use Rattle.filling.specs.declared.rewriting.Rewriting.the-variants.{Stea
 use Rattle.filling.specs.declared.conjuncts.Fixpoint.the-variants.{Least, Greatest}
 use Rattle.filling.specs.Slots.{by, place, wordBy, globallySlot, Plain, WordFilled}
 use Rattle.filling.specs.Filled.{formOf, Filled}
-use Rattle.fixpoints.specs.Weights.{digit, bitOf, Weighed, Chosen}
+use Rattle.fixpoints.specs.Positions.{digit, bitOf, Kept}
 use Rattle.filling.proofs.Places.{place-fits, place-before}
 use Rattle.fixpoints.proofs.UntilLike.{member-fixpoint}
 use Rattle.filling.proofs.Members.{picked-word}
@@ -169,7 +169,6 @@ module _ {limit : ℕ} {t : List ℕ} (f : WellFormed true limit t) {c i : ℕ} 
       form m j p (inl z) = rw (z, formula) (new m)
       form m j p (inr l) = earlier m j p l .1
 
--- the bit of a word, from its weight
-pub weighed-bit : {t weights : List ℕ} {c i : ℕ} {r : Bool} → Weighed t weights (length t) → i < length t → Chosen weights c (i + 1) r → isFixpointWord (getD t i 0) ≡ true
-    → r ≡ digit c (bitOf t i)
-weighed-bit {t} {i = i} q h x e = x .chosen (bitOf t i) (rw (add-one i) (q .weight i h e))
+-- the bit of a word, by the position that is kept of it
+pub kept-bit : {t positions : List ℕ} (c : ℕ) {i : ℕ} {r : Bool} → Kept t positions (length t) → i < length t → r ≡ digit c (getD positions (i + 1) 0) → r ≡ digit c (bitOf t i)
+kept-bit c {i} q h x = x ∙ ap (digit c) (rw (add-one i) (q .position i h))

@@ -16,7 +16,7 @@ use Rattle.table.specs.declared.refusal.Outcome.the-variants.{Accepted}
 use Rattle.table.specs.Checks.{checked}
 use Rattle.table.specs.Node.{binaryKind}
 use Rattle.draft.specs.Slot.{pack}
-use Rattle.fixpoints.specs.Weights.{Weighed}
+use Rattle.fixpoints.specs.Positions.{Kept}
 use Rattle.filling.specs.Slots.{place, finallySlot, globallySlot}
 use Rattle.filling.specs.Filled.{rewritten, Filled}
 
@@ -71,10 +71,10 @@ pub record Conjoined (x : Fixpoint) (j : ℕ) (d : List ℕ) (next : ℕ) (e : L
   pub after : r ≡ next + 3
 
 -- all words are filled, and there is room for all conjuncts after what the slot before `first` stands for
-pub record Joinable (x : Fixpoint) (t weights : List ℕ) (c : ℕ) (d : List ℕ) (first : ℕ) : Type 0 where
+pub record Joinable (x : Fixpoint) (t positions : List ℕ) (c : ℕ) (d : List ℕ) (first : ℕ) : Type 0 where
   pub limit : ℕ
   pub accepted : checked true limit t ≡ Accepted
-  pub weighed : Weighed t weights (length t)
+  pub kept : Kept t positions (length t)
   pub filled : Filled t c d (length t)
   pub past-words : place Opening (length t) < first
   pub long : first + 3 * conjuncts x t c ≤ length d

@@ -16,7 +16,7 @@ use Rattle.table.specs.Numbering.{build}
 use Rattle.draft.specs.State.{State, written, Placing}
 use Rattle.filling.specs.declared.rewriting.Rewriting.{Rewriting}
 use Rattle.filling.specs.Slots.{by, place}
-use Rattle.fixpoints.specs.Weights.{Weighed}
+use Rattle.fixpoints.specs.Positions.{Kept}
 
 -- a formula rewritten by choice c of table t
 abbrev pub rewritten : Rewriting → List ℕ → ℕ → Formula → Formula
@@ -30,11 +30,11 @@ formOf m t c j = rewritten m t c (formulaOf (formulas t) j)
 abbrev pub draftSize : List ℕ → ℕ
 draftSize t = 5 * length t + 3 * length (fixpoints t) + 5
 
--- an accepted plain table with its weights, and a draft that is long enough for each of its choices
-pub record Fillable (t weights d : List ℕ) : Type 0 where
+-- an accepted plain table with its positions, and a draft that is long enough for each of its choices
+pub record Fillable (t positions d : List ℕ) : Type 0 where
   pub limit : ℕ
   pub accepted : checked true limit t ≡ Accepted
-  pub weighed : Weighed t weights (length t)
+  pub kept : Kept t positions (length t)
   pub long : draftSize t ≤ length d
   pub narrow : length d ≤ 1024
 

@@ -70,19 +70,19 @@ pub fn conjoin(fixpoint: Fixpoint, j: usize, draft: &mut [u64], next: usize) -> 
 pub fn conjuncts(
     fixpoint: Fixpoint,
     table: &[u32],
-    weights: &[u32],
+    positions: &[u8],
     choice: u32,
     draft: &mut [u64],
     first: usize,
 ) -> usize
-    requires { ⌜ Joinable fixpoint (now table) (now weights) choice (now draft) first ⌝ }
+    requires { ⌜ Joinable fixpoint (now table) (now positions) choice (now draft) first ⌝ }
     ensures { λ r. ⌜ Joined fixpoint (now (table .entry)) choice (now (draft .entry)) first (now (draft .exit)) r ⌝ }
 {
     let mut next = first;
     let mut i = 0;
     while i < table.len() {
         if is(fixpoint, table[i]) {
-            if fixpoints::chosen(weights, choice, i + 1) {
+            if fixpoints::chosen(positions, choice, i + 1) {
                 next = conjoin(fixpoint, i + 1, draft, next);
             }
         }

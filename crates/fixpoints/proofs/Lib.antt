@@ -1,3 +1,3 @@
--- The until-like words, their bits, and what is kept of them.
+-- The until-like words, their bits, and the positions that are kept.
 pub mod UntilLike
-pub mod Weighing
+pub mod Positions

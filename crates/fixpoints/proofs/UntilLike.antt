@@ -1,5 +1,5 @@
 -- The until-like words of an accepted plain table: their formulas in order, and which of them a choice has.
-use Prim.Native.Nat.{ℕ, zero, suc, _+_, _-_, _/_, _%_, _^_, _<_}
+use Prim.Native.Nat.{ℕ, zero, suc, _+_, _-_, _/_, _%_, _^_, _≤_, _<_}
 use native.Mathlib.Omega.{arith}
 use native.Mathlib.Nat.{div-div-eq-div-mul, div-one, mul-comm}
 use native.Mathlib.Numerals.{unary-clauses}
@@ -7,19 +7,19 @@ use mathlib.Core.Path.{_≡_, refl, sym, ap, _∙_, subst}
 use mathlib.Core.Logic.{⊎-elim}
 use mathlib.Core.Bool.{Bool, true, false, cond, _||_, _&&_}
 use mathlib.Core.List.{List, [], _∷_, _++_, List·Memᴰ, List·Memᴰ·head, List·Memᴰ·tail, List·Memᴰ·cases-cons}
-use lib.ListN.{length, getD, take, drop, length-drop}
-use lib.Seq.{split-at, take-suc, getD-take, getD-drop, length-take-le}
+use lib.ListN.{length, getD, take, drop, length-drop, length-append}
+use lib.Seq.{split-at, take-suc, take-length, getD-take, getD-drop, getD-append-seam, length-take-le}
 use lib.Dec.{T, eqb, leb}
 use Rattle.logic.specs.Formula.{Formula, const, same, next, neg, finally, globally, conj, disj, until, weak, release, strong, implies}
 use Rattle.logic.specs.NormalForm.{isLeast, isGreatest, isFixpoint, keep, member, chosen, leastOf, greatestOf}
 use Rattle.table.specs.Node.{Shape, none, constant, letter, unary, binary, kind, shape, kindOf}
-use Rattle.table.specs.Table.{formulaBy, formulas}
+use Rattle.table.specs.Table.{formulaBy, formulas, formulasAfter}
 use Rattle.table.specs.Steps.{fixpoints}
 use Rattle.table.specs.StepChecks.{isFixpointWord}
 use Rattle.table.proofs.Accepted.{WellFormed, accepted-formula}
 use Rattle.table.proofs.Formulas.{take-formulas, length-formulas}
 use Rattle.logic.proofs.Normal.Membership.{mem-of-member, member-of-mem, mem-keep}
-use Rattle.fixpoints.specs.Weights.{digit, bitOf}
+use Rattle.fixpoints.specs.Positions.{digit, bitOf}
 use Rattle.table.proofs.Shapes.{kindOf-shape}
 use Rattle.normal_laws.proofs.Chosen.{keep-append, mem-chosen, mem-place}
 use Rattle.normal_laws.proofs.Distinct.{formulas-differ}
@@ -112,33 +112,74 @@ module _ {limit : ℕ} {t : List ℕ} (f : WellFormed true limit t) (i : ℕ) (h
       ∙ keep-append isFixpoint (take i (formulas t)) _
       ∙ rw (word-fixpoint, take-formulas i t)
 
-  -- the bit of an until-like word tells whether it is chosen
-  fixpoints-split : isFixpointWord (getD t i 0) ≡ true
-      → fixpoints t ≡ fixpoints (take i t) ++ getD (formulas t) i (const false) ∷ keep isFixpoint (drop (suc i) (formulas t))
-  unfolding fixpoints
-  fixpoints-split e =
-      ap (keep isFixpoint) (split-at (formulas t) i (const false) (rw length-formulas h))
-      ∙ keep-append isFixpoint (take i (formulas t)) _
-      ∙ rw (word-fixpoint, e, take-formulas i t)
+-- one word more is one bit more if it is until-like
+one-long : (b : Bool) {A : Type 0} (a : A) → length (cond b (a ∷ []) []) ≡ cond b 1 0
+one-long true a = refl
+one-long false a = refl
 
-  before-differ : List·Memᴰ (getD (formulas t) i (const false)) (fixpoints (take i t)) → ⊥
-  unfolding fixpoints
-  before-differ m =
-      let p = mem-place (mem-keep isFixpoint (formulas (take i t)) m .0) in
-      let b : p .0 < i = omega (arith, p .1, length-formulas (take i t), length-take-le i t (omega arith)) in
-      let e : getD (formulas t) (p .0) (const false) ≡ getD (formulas t) i (const false) =
-      sym (getD-take i (formulas t) (p .0) (const false) b) ∙ ap (λ (l : List Formula). getD l (p .0) (const false)) (take-formulas i t) ∙ p .2 in
-      omega (arith, formulas-differ f (p .0) i (omega arith) h e)
+pub bitOf-step : (t : List ℕ) (i : ℕ) → i < length t → bitOf t (suc i) ≡ bitOf t i + cond (isFixpointWord (getD t i 0)) 1 0
+bitOf-step t i h =
+    ap (λ (l : List ℕ). length (keep isFixpointWord l)) (take-suc t i 0 h)
+    ∙ ap length (keep-append isFixpointWord (take i t) _)
+    ∙ length-append (keep isFixpointWord (take i t)) _
+    ∙ ap (λ (n : ℕ). bitOf t i + n) (one-long (isFixpointWord (getD t i 0)) _)
 
-  after-differ : List·Memᴰ (getD (formulas t) i (const false)) (keep isFixpoint (drop (suc i) (formulas t))) → ⊥
-  after-differ m =
-      let p = mem-place (mem-keep isFixpoint (drop (suc i) (formulas t)) m .0) in
-      let b : suc i + p .0 < length t = omega (arith, p .1, length-formulas t, length-drop (suc i) (formulas t)) in
-      let e : getD (formulas t) (suc i + p .0) (const false) ≡ getD (formulas t) i (const false) = sym (getD-drop (suc i) (formulas t) (p .0) (const false)) ∙ p .2 in
-      omega (arith, formulas-differ f (suc i + p .0) i b h e)
+-- there are no more bits before a word than in all
+pub bitOf-rise : (t : List ℕ) (k i : ℕ) → i + k ≡ length t → bitOf t i ≤ bitOf t (length t)
+bitOf-rise t zero i e = let q : i ≡ length t = omega arith in rw q (omega arith)
+bitOf-rise t (suc k) i e = omega (arith, bitOf-step t i (omega arith), bitOf-rise t k (suc i) (omega arith))
 
-  pub member-fixpoint : (p : Formula → Bool) (c : ℕ) → p (getD (formulas t) i (const false)) ≡ true → isFixpointWord (getD t i 0) ≡ true
-      → member (keep p (chosen (fixpoints t) c)) (getD (formulas t) i (const false)) ≡ digit c (bitOf t i)
-  member-fixpoint p c e g =
-      ap (λ (l : List Formula). member (keep p (chosen l c)) (getD (formulas t) i (const false))) (fixpoints-split g)
-      ∙ member-chosen p (fixpoints (take i t)) (getD (formulas t) i (const false)) (keep isFixpoint (drop (suc i) (formulas t))) c e before-differ after-differ
+module _ {limit : ℕ} {t : List ℕ} (f : WellFormed true limit t) where
+  -- as many until-like words before a word as fixpoint formulas
+  pub bits-before : (i : ℕ) → i ≤ length t → length (fixpoints (take i t)) ≡ bitOf t i
+  unfolding fixpoints formulas formulasAfter
+  bits-before zero h = refl
+  bits-before (suc i) h =
+      ap length (fixpoints-step f i h)
+      ∙ length-append (fixpoints (take i t)) _
+      ∙ ap (λ (n : ℕ). length (fixpoints (take i t)) + n) (one-long (isFixpointWord (getD t i 0)) _)
+      ∙ ap (λ (n : ℕ). n + cond (isFixpointWord (getD t i 0)) 1 0) (bits-before i (omega arith))
+      ∙ sym (bitOf-step t i h)
+
+  pub bits-all : length (fixpoints t) ≡ bitOf t (length t)
+  bits-all = ap (λ (l : List ℕ). length (fixpoints l)) (sym (take-length t)) ∙ bits-before (length t) (omega arith)
+
+  module _ (i : ℕ) (h : i < length t) where
+    fixpoints-split : isFixpointWord (getD t i 0) ≡ true
+        → fixpoints t ≡ fixpoints (take i t) ++ getD (formulas t) i (const false) ∷ keep isFixpoint (drop (suc i) (formulas t))
+    unfolding fixpoints
+    fixpoints-split e =
+        ap (keep isFixpoint) (split-at (formulas t) i (const false) (rw length-formulas h))
+        ∙ keep-append isFixpoint (take i (formulas t)) _
+        ∙ rw (word-fixpoint f i h, e, take-formulas i t)
+
+    before-differ : List·Memᴰ (getD (formulas t) i (const false)) (fixpoints (take i t)) → ⊥
+    unfolding fixpoints
+    before-differ m =
+        let p = mem-place (mem-keep isFixpoint (formulas (take i t)) m .0) in
+        let b : p .0 < i = omega (arith, p .1, length-formulas (take i t), length-take-le i t (omega arith)) in
+        let e : getD (formulas t) (p .0) (const false) ≡ getD (formulas t) i (const false) =
+        sym (getD-take i (formulas t) (p .0) (const false) b) ∙ ap (λ (l : List Formula). getD l (p .0) (const false)) (take-formulas i t) ∙ p .2 in
+        omega (arith, formulas-differ f (p .0) i (omega arith) h e)
+
+    after-differ : List·Memᴰ (getD (formulas t) i (const false)) (keep isFixpoint (drop (suc i) (formulas t))) → ⊥
+    after-differ m =
+        let p = mem-place (mem-keep isFixpoint (drop (suc i) (formulas t)) m .0) in
+        let b : suc i + p .0 < length t = omega (arith, p .1, length-formulas t, length-drop (suc i) (formulas t)) in
+        let e : getD (formulas t) (suc i + p .0) (const false) ≡ getD (formulas t) i (const false) = sym (getD-drop (suc i) (formulas t) (p .0) (const false)) ∙ p .2 in
+        omega (arith, formulas-differ f (suc i + p .0) i b h e)
+
+    -- the formula of an until-like word has the word's bit number in the list by which choices are read
+    pub bit-listed : isFixpointWord (getD t i 0) ≡ true → getD (fixpoints t) (bitOf t i) (const false) ≡ getD (formulas t) i (const false)
+    bit-listed e =
+        ap (λ (l : List Formula). getD l (bitOf t i) (const false)) (fixpoints-split e)
+        ∙ ap (λ (n : ℕ). getD (fixpoints (take i t) ++ getD (formulas t) i (const false) ∷ keep isFixpoint (drop (suc i) (formulas t))) n (const false)) (sym (bits-before i (omega arith)))
+        ∙ getD-append-seam (fixpoints (take i t)) (getD (formulas t) i (const false)) (keep isFixpoint (drop (suc i) (formulas t))) (const false)
+
+    -- and that bit of a choice tells whether it is chosen
+    pub member-fixpoint : (p : Formula → Bool) (c : ℕ) → p (getD (formulas t) i (const false)) ≡ true → isFixpointWord (getD t i 0) ≡ true
+        → member (keep p (chosen (fixpoints t) c)) (getD (formulas t) i (const false)) ≡ digit c (bitOf t i)
+    member-fixpoint p c e g =
+        ap (λ (l : List Formula). member (keep p (chosen l c)) (getD (formulas t) i (const false))) (fixpoints-split g)
+        ∙ member-chosen p (fixpoints (take i t)) (getD (formulas t) i (const false)) (keep isFixpoint (drop (suc i) (formulas t))) c e before-differ after-differ
+        ∙ ap (digit c) (bits-before i (omega arith))

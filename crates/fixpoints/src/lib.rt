@@ -3,10 +3,10 @@ use table::kinds;
 use table::word;
 ghost use Prim.Native.Nat.{_<_};
 ghost use mathlib.Core.Path.{_≡_};
-ghost use lib.ListN.{length};
+ghost use lib.ListN.{length, getD};
 ghost use Rattle.table.specs.Steps.{fixpoints};
 ghost use Rattle.table.specs.StepChecks.{isFixpointWord};
-ghost use Rattle.fixpoints.specs.Weights.{Chosen, Weighable, Weighed, Past};
+ghost use Rattle.fixpoints.specs.Positions.{digit, Keepable, Kept, Past};
 
 pub fn is_fixpoint(w: u32) -> bool
     ensures { λ r. ⌜ r ≡ isFixpointWord w ⌝ }
@@ -35,33 +35,27 @@ pub fn past(table: &[u32], limit: usize) -> usize
     0
 }
 
-// Writes the weight of each until-like word's bit at the word's number, and hands back how many there are.
-pub fn weigh(table: &[u32], weights: &mut [u32]) -> u32
-    requires { ⌜ Weighable (now table) (now weights) ⌝ }
-    ensures { λ r. ⌜ (r ≡ length (fixpoints (now (table .entry)))) × Weighed (now (table .entry)) (now (weights .exit)) (length (now (table .entry))) ⌝ }
+// Keeps at each word's number how many until-like words stand before it, which is the bit number of an until-like word, and hands back how
+// many there are.
+pub fn count(table: &[u32], positions: &mut [u8]) -> u32
+    requires { ⌜ Keepable (now table) (now positions) ⌝ }
+    ensures { λ r. ⌜ (r ≡ length (fixpoints (now (table .entry)))) × Kept (now (table .entry)) (now (positions .exit)) (length (now (table .entry))) ⌝ }
 {
-    let mut bits: u32 = 0;
-    let mut next: u32 = 1;
+    let mut bits: u8 = 0;
     let mut i = 0;
     while i < table.len() {
-        if is_fixpoint(table[i]) {
-            weights[i + 1] = next;
-            next = 2 * next;
-            bits += 1;
-        }
+        positions[i + 1] = bits;
+        let one = if is_fixpoint(table[i]) { 1 } else { 0 };
+        bits += one;
         i += 1;
     }
-    bits
+    bits as u32
 }
 
-// Whether the choice has the bit of until-like word j.
-pub fn chosen(weights: &[u32], choice: u32, j: usize) -> bool
-    requires { ⌜ j < length (now weights) ⌝ }
-    ensures { λ r. ⌜ Chosen (now (weights .entry)) choice j r ⌝ }
+// Whether the choice has the bit whose position is kept at number j. Only of until-like words does the answer matter.
+pub fn chosen(positions: &[u8], choice: u32, j: usize) -> bool
+    requires { ⌜ (j < length (now positions)) × (getD (now positions) j 0 < 32) ⌝ }
+    ensures { λ r. ⌜ r ≡ digit choice (getD (now (positions .entry)) j 0) ⌝ }
 {
-    let weight = weights[j];
-    if weight == 0 {
-        return false;
-    }
-    choice / weight % 2 == 1
+    (choice >> positions[j]) & 1 == 1
 }

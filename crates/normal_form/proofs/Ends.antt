@@ -21,9 +21,9 @@ use Rattle.table.specs.Frame.{normalStep, answerOf, resultOf}
 use Rattle.table.proofs.First.{first-append-accepted, first-append-refused}
 use Rattle.table.proofs.Frame.{refused-answer, refused-result, too-long-answer, too-long-result, made-answer, made-result, normal-early}
 use Rattle.table.proofs.Accepted.{accepted-well-formed}
-use Rattle.fixpoints.specs.Weights.{Past}
+use Rattle.fixpoints.specs.Positions.{Past}
 use Rattle.normal_form.specs.Forms.{Accepted, Formed}
-use Rattle.fixpoints.proofs.Weighing.{fixpoints-few}
+use Rattle.fixpoints.proofs.Positions.{fixpoints-few}
 
 -- the checks with the limits that the code asks for
 pub table-at-desk : {x : Limits} {o p : Outcome} (t : List ℕ) → x ≡ desk → o ≡ checked true (min (2 * x .written + 2) 16383) t → o ≡ p → checked true (plainLimit desk) t ≡ p

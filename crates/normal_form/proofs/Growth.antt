@@ -78,12 +78,12 @@ pub grown-same : (f g : Formula → Formula) {s : State} {a : ℕ} → Numbered 
 grown-same f g h l e = record { numbered = h; small = l; placed = λ s χ p. rw (← (e χ)) p }
 
 -- the next choice is asked with the same, but for the state and what the draft holds
-pub ready-again : {t weights d : List ℕ} (e : List ℕ) {s m : State} → Ready t weights d s → length e ≡ length d → Numbered m → Ready t weights e m
+pub ready-again : {t positions d : List ℕ} (e : List ℕ) {s m : State} → Ready t positions d s → length e ≡ length d → Numbered m → Ready t positions e m
 ready-again e q l h = record {
   fillable = record {
     limit = q .fillable .limit;
     accepted = q .fillable .accepted;
-    weighed = q .fillable .weighed;
+    kept = q .fillable .kept;
     long = rw l (q .fillable .long);
     narrow = rw l (q .fillable .narrow);
   };

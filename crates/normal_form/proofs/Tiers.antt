@@ -14,7 +14,7 @@ use Rattle.logic.specs.Formula.{Formula}
 use Rattle.table.specs.Table.{formulas, rule}
 use Rattle.table.proofs.Formulas.{length-formulas}
 use Rattle.filling.specs.Filled.{draftSize}
-use Rattle.fixpoints.specs.Weights.{Weighed}
+use Rattle.fixpoints.specs.Positions.{Kept}
 use Rattle.table.specs.Numbering.{build, tableOf, fits}
 use Rattle.table.specs.Steps.{fixpoints, normalTable}
 use Rattle.draft.specs.State.{State, state, count, written, Placing}
@@ -22,18 +22,18 @@ use Rattle.draft.proofs.Putting.{numbered-none, fits-true, fits-false}
 use Rattle.draft.proofs.Placing.{true-fits, false-fits, placing-fits, placing-unfit, build-positive, placing-whole, whole-count, whole-out}
 use Rattle.numbering.proofs.Building.{tableOf-long}
 use Rattle.normal_form.specs.Growing.{Formable}
-use Rattle.normal_form.specs.Forms.{mostWords, Accepted, Weighted, Sized, Formed}
+use Rattle.normal_form.specs.Forms.{mostWords, Accepted, Positioned, Sized, Formed}
 use Rattle.normal_laws.proofs.Promise.{normal-length}
 
 -- what a form is asked with, in each tier
-pub formable : {t weights : List ℕ} {bits : ℕ} {out : List ℕ} (slots m words : ℕ) → Weighted t weights bits × Sized t slots out words → slots ≤ 1024 → words < m / 2 → m ≤ 32768
-    → Formable t weights bits (replicate slots 0) (state out (replicate m 0))
+pub formable : {t positions : List ℕ} {bits : ℕ} {out : List ℕ} (slots m words : ℕ) → Positioned t positions bits × Sized t slots out words → slots ≤ 1024 → words < m / 2 → m ≤ 32768
+    → Formable t positions bits (replicate slots 0) (state out (replicate m 0))
 formable {out = out} slots m words q s h l = record {
   ready = record {
     fillable = record {
       limit = q .0 .table .limit;
       accepted = q .0 .table .accepted;
-      weighed = q .0 .weighed;
+      kept = q .0 .kept;
       long = rw (length-replicate {A = ℕ} slots 0) (q .1 .few-slots);
       narrow = rw (length-replicate {A = ℕ} slots 0) s;
     };
@@ -124,9 +124,9 @@ unfolding fixpoints
 short-draft t = omega (arith, keep-short isFixpoint (formulas t), length-formulas t)
 
 -- what each tier asks
-pub sized : {t weights : List ℕ} {bits : ℕ} (slots words : ℕ) (result : List ℕ) (cap : ℕ) → Accepted t → (bits ≡ length (fixpoints t)) × Weighed t weights (length t)
-    → draftSize t ≤ slots → min cap 16383 ≤ words → Weighted t weights bits × Sized t slots (take cap result) words
-sized slots words result cap q w h l = (record { table = q; weighed = w .1; bits-are = w .0 }, record { few-slots = h; few-words = rw length-take (omega arith) })
+pub sized : {t positions : List ℕ} {bits : ℕ} (slots words : ℕ) (result : List ℕ) (cap : ℕ) → Accepted t → (bits ≡ length (fixpoints t)) × Kept t positions (length t)
+    → draftSize t ≤ slots → min cap 16383 ≤ words → Positioned t positions bits × Sized t slots (take cap result) words
+sized slots words result cap q w h l = (record { table = q; kept = w .1; bits-are = w .0 }, record { few-slots = h; few-words = rw length-take (omega arith) })
 
 pub capped : (n room : ℕ) {bits k cap : ℕ} → bits ≡ k → cap ≡ min (mostWords n bits) room → cap ≡ min (mostWords n k) room
 capped n room e c = c ∙ ap (λ (b : ℕ). min (mostWords n b) room) e

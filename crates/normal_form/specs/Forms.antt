@@ -8,7 +8,7 @@ use Rattle.table.specs.declared.refusal.Outcome.the-variants as outcome
 use Rattle.table.specs.Checks.{checked}
 use Rattle.table.specs.Numbering.{room, fits}
 use Rattle.table.specs.Steps.{fixpoints, normalTable}
-use Rattle.fixpoints.specs.Weights.{Weighed}
+use Rattle.fixpoints.specs.Positions.{Kept}
 use Rattle.filling.specs.Filled.{draftSize}
 
 -- the most words of a form of n words of which k are until-like
@@ -23,10 +23,10 @@ pub record Accepted (t : List ℕ) : Type 0 where
   pub few : length (fixpoints t) < 32
   pub drafted : draftSize t ≤ 1024
 
--- with the weights of its until-like words
-pub record Weighted (t weights : List ℕ) (bits : ℕ) : Type 0 where
+-- with the positions of its until-like words
+pub record Positioned (t positions : List ℕ) (bits : ℕ) : Type 0 where
   pub table : Accepted t
-  pub weighed : Weighed t weights (length t)
+  pub kept : Kept t positions (length t)
   pub bits-are : bits ≡ length (fixpoints t)
 
 -- its drafts have at most so many slots, and its slice counts for at most so many words

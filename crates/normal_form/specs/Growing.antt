@@ -22,8 +22,8 @@ abbrev pub choicesBelow : ℕ → ℕ → List ℕ
 choicesBelow limit n = keep (λ c. eqb (ones c) n) (from 0 limit)
 
 -- what each choice is asked with
-pub record Ready (t weights d : List ℕ) (s : State) : Type 0 where
-  pub fillable : Fillable t weights d
+pub record Ready (t positions d : List ℕ) (s : State) : Type 0 where
+  pub fillable : Fillable t positions d
   pub numbered : Numbered s
 
 -- where the words of f χ were placed up to s, and n is its number, those of g χ are placed up to e, and r is its number; 0: they do not fit
@@ -33,7 +33,7 @@ pub record Grown (f g : Formula → Formula) (s e : State) (n r : ℕ) : Type 0 
   pub placed : (s₀ : State) (χ : Formula) → Placing s₀ s (build (written s₀) (f χ)) n → Placing s₀ e (build (written s₀) (g χ)) r
 
 -- what a form is asked with
-pub record Formable (t weights : List ℕ) (bits : ℕ) (d : List ℕ) (s : State) : Type 0 where
-  pub ready : Ready t weights d s
+pub record Formable (t positions : List ℕ) (bits : ℕ) (d : List ℕ) (s : State) : Type 0 where
+  pub ready : Ready t positions d s
   pub bits-are : bits ≡ length (fixpoints t)
   pub few : bits < 32

@@ -15,7 +15,7 @@ ghost use Rattle.normal_form.specs.Growing.{disjoined, choicesBelow, Rea
 // The number of `n or p`, with p the part of the choice, if it has so many chosen words, and n otherwise.
 pub fn with_part(
     table: &[u32],
-    weights: &[u32],
+    positions: &[u8],
     choice: u32,
     ones: u32,
     draft: &mut [u64],
@@ -23,7 +23,7 @@ pub fn with_part(
     index: &mut [u16],
     n: usize,
 ) -> usize
-    requires { ⌜ Ready (now table) (now weights) (now draft) (state (now out) (now index)) ⌝ }
+    requires { ⌜ Ready (now table) (now positions) (now draft) (state (now out) (now index)) ⌝ }
     requires { ⌜ n < 16384 ⌝ }
     ensures { λ r. ⌜ Grown
         (disjoined (now (table .entry)) (choicesBelow choice ones))
@@ -39,7 +39,7 @@ pub fn with_part(
     if n == 0 {
         return 0;
     }
-    let p = part::part(table, weights, choice, draft, out, index);
+    let p = part::part(table, positions, choice, draft, out, index);
     if p == 0 {
         return 0;
     }
@@ -49,7 +49,7 @@ pub fn with_part(
 // The choices below `limit` with so many chosen words.
 pub fn with_ones(
     table: &[u32],
-    weights: &[u32],
+    positions: &[u8],
     limit: u32,
     ones: u32,
     draft: &mut [u64],
@@ -57,7 +57,7 @@ pub fn with_ones(
     index: &mut [u16],
     first: usize,
 ) -> usize
-    requires { ⌜ Ready (now table) (now weights) (now draft) (state (now out) (now index)) ⌝ }
+    requires { ⌜ Ready (now table) (now positions) (now draft) (state (now out) (now index)) ⌝ }
     requires { ⌜ first < 16384 ⌝ }
     ensures { λ r. ⌜ Grown
         (λ φ. φ)
@@ -70,7 +70,7 @@ pub fn with_ones(
     let mut n = first;
     let mut choice = 0;
     while choice < limit {
-        n = with_part(table, weights, choice, ones, draft, out, index, n);
+        n = with_part(table, positions, choice, ones, draft, out, index, n);
         choice += 1;
     }
     n
@@ -79,13 +79,13 @@ pub fn with_ones(
 // All choices among the until-like words, of which there are as many as bits.
 pub fn form(
     table: &[u32],
-    weights: &[u32],
+    positions: &[u8],
     bits: u32,
     draft: &mut [u64],
     out: &mut [u32],
     index: &mut [u16],
 ) -> usize
-    requires { ⌜ Formable (now table) (now weights) bits (now draft) (state (now out) (now index)) ⌝ }
+    requires { ⌜ Formable (now table) (now positions) bits (now draft) (state (now out) (now index)) ⌝ }
     ensures { λ r. ⌜ Placing
         (state (now (out .entry)) (now (index .entry)))
         (state (now (out .exit)) (now (index .exit)))
@@ -94,10 +94,10 @@ pub fn form(
         (normalForm (steps.fixpoints (now (table .entry))) (rule (now (table .entry)))))
         r ⌝ }
 {
-    let mut n = part::part(table, weights, 0, draft, out, index);
+    let mut n = part::part(table, positions, 0, draft, out, index);
     let mut ones = 1;
     while ones <= bits {
-        n = with_ones(table, weights, 1 << bits, ones, draft, out, index, n);
+        n = with_ones(table, positions, 1 << bits, ones, draft, out, index, n);
         ones += 1;
     }
     n

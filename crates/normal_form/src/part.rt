@@ -33,20 +33,20 @@ pub fn number_long(draft: &[u64], root: usize, out: &mut [u32], index: &mut [u16
 
 pub fn part(
     table: &[u32],
-    weights: &[u32],
+    positions: &[u8],
     choice: u32,
     draft: &mut [u64],
     out: &mut [u32],
     index: &mut [u16],
 ) -> usize
-    requires { ⌜ Ready (now table) (now weights) (now draft) (state (now out) (now index)) ⌝ }
+    requires { ⌜ Ready (now table) (now positions) (now draft) (state (now out) (now index)) ⌝ }
     ensures { λ r. ⌜ Placing
         (state (now (out .entry)) (now (index .entry)))
         (state (now (out .exit)) (now (index .exit)))
         (build (written (state (now (out .entry)) (now (index .entry)))) (normal.part (steps.fixpoints (now (table .entry))) (rule (now (table .entry))) choice))
         r ⌝ }
 {
-    let root = filling::fill(table, weights, choice, draft);
+    let root = filling::fill(table, positions, choice, draft);
     if draft.len() <= 256 {
         return number_short(draft, root, out, index);
     }

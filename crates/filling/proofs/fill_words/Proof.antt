@@ -8,18 +8,24 @@ use lib.ListN.{length, length-set}
 use borrow.Author.Needs.{needs}
 use Rattle.table.proofs.Accepted.{accepted-well-formed}
 use Rattle.filling.specs.Filled.{Filled}
-use Rattle.filling.proofs.WordByWord.{word-plain, filled-none, filled-more, weighed-bit}
+use Rattle.filling.proofs.WordByWord.{word-plain, filled-none, filled-more, kept-bit}
+use Rattle.fixpoints.proofs.Positions.{kept-small}
 use Rattle.filling.proofs.fill_words.Statement.{statement}
 use Rattle.filling.proofs.fill_words.Tie as tie
 
 abbrev Inv-loop : tie.InvT-loop
-Inv-loop table weights choice draft₀ i₀ draft i = (i ≤ length table) × (length draft ≡ length draft₀) × Filled table choice draft i
+Inv-loop table positions choice draft₀ i₀ draft i = (i ≤ length table) × (length draft ≡ length draft₀) × Filled table choice draft i
 
 abbrev μ-loop : tie.MeasureT-loop
-μ-loop table weights choice draft₀ i₀ draft i = length table - i
+μ-loop table positions choice draft₀ i₀ draft i = length table - i
 
 loop-holds : tie.Need-loop-holds Inv-loop μ-loop
 loop-holds c = (omega arith, refl, rw (c .before .pack .ensures, c .pack2 .ensures) (filled-none _ _ (c .before .before .before .before .before .args .draft .now) (omega (arith, c .before .before .before .before .before .pre .long))))
+
+chosen-requires : tie.Need-chosen-requires Inv-loop μ-loop
+chosen-requires c κs =
+    let q = c .before .before .before .before .before .before .before .pre .kept in
+    (omega (arith, c .loop-test .taken, q .long), kept-small q _ (c .loop-test .taken))
 
 fill-word-requires : tie.Need-fill-word-requires Inv-loop μ-loop
 fill-word-requires c κs =
@@ -39,7 +45,7 @@ loop-again c =
     let w = rw add-one at (c .before .before .fill-word .ensures) in (
       omega (arith, h),
       w .long ∙ q .1,
-      rw add-one (filled-more (accepted-well-formed true _ _ (f .accepted)) h (q .2) w (omega (arith, f .long, l)) (weighed-bit (f .weighed) h (c .before .before .before .before .before .chosen .ensures))),
+      rw add-one (filled-more (accepted-well-formed true _ _ (f .accepted)) h (q .2) w (omega (arith, f .long, l)) (λ _. kept-bit _ (f .kept) h (c .before .before .before .before .before .chosen .ensures))),
     )
 
 same-length : tie.Need-same-length Inv-loop μ-loop
@@ -60,7 +66,7 @@ fill-words-spec =
     (λ c. simp length-set (omega (arith, c .before .before .before .before .before .pre .long)))
     loop-holds
     (λ c. omega (arith, c .loop-test .taken))
-    (λ c κs. omega (arith, c .loop-test .taken, c .before .before .before .before .before .before .before .pre .weighed .long))
+    chosen-requires
     (search needs)
     (λ c. c .before .before .loop-test .taken)
     (λ c. omega (arith, c .before .before .loop-test .taken))

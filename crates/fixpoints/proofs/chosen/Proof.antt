@@ -1,23 +1,24 @@
-use lib.Pow.{pow-pos}
+-- A bit is what a shift by its position leaves lowest.
+use Prim.Native.Nat.{ℕ, _/_, _^_}
 use native.Mathlib.Omega.{arith}
-use borrow.Author.Needs.{needs}
+use mathlib.Core.Path.{ap}
+use lib.Bits.{and-mask}
+use lib.Dec.{eqb}
+use lib.ListN.{getD}
 use Rattle.fixpoints.proofs.chosen.Statement.{statement}
 use Rattle.fixpoints.proofs.chosen.Tie as tie
 
-mul-weight : tie.Need-mul-weight
-mul-weight c = search needs
+shared-slice-read-result : tie.Need-shared-slice-read-result
+shared-slice-read-result c = c .before .pre .0
 
-shared-slice-read-weight : tie.Need-shared-slice-read-weight
-shared-slice-read-weight c = search needs
+cast-result : tie.Need-cast-result
+cast-result c = omega (arith, c .before .pre .1)
+
+shr-result : tie.Need-shr-result
+shr-result c = c .before .pre .1
 
 returns : tie.Need-returns
-returns c = record { chosen = λ b e. absurd (omega (arith, c .if1 .taken, pow-pos b)) }
-
-div-result : tie.Need-div-result
-div-result c = search needs
-
-returns-2 : tie.Need-returns-2
-returns-2 c = record { chosen = λ b e. rw e }
+returns c = ap (λ (n : ℕ). eqb n 1) (and-mask (c .before .args .choice / 2 ^ getD (c .before .args .positions .now) (c .before .args .j) 0) 1)
 
 pub chosen-spec : {M : Type 1} → statement M
-chosen-spec = tie.close (tie.spec mul-weight shared-slice-read-weight returns div-result returns-2)
+chosen-spec = tie.close (tie.spec shared-slice-read-result cast-result shr-result returns)

@@ -4,7 +4,7 @@ use mathlib.Core.Logic.{⊎-elim}
 use lib.ListN.{length}
 use native.Mathlib.Omega.{arith}
 use borrow.Author.Needs.{needs}
-use Rattle.fixpoints.proofs.Weighing.{Counting, counting-none, counting-taken, counting-left, counting-past, counting-all}
+use Rattle.fixpoints.proofs.Positions.{Counting, counting-none, counting-taken, counting-left, counting-past, counting-all}
 use Rattle.fixpoints.proofs.past.Statement.{statement}
 use Rattle.fixpoints.proofs.past.Tie as tie
 

@@ -5,20 +5,24 @@ use lib.ListN.{length}
 use native.Mathlib.Omega.{arith}
 use borrow.Author.Needs.{needs}
 use Rattle.filling.proofs.Conjoining.{Joining, joining-none, joining-other, joining-left, joining-room, joining-taken, joining-all}
+use Rattle.fixpoints.proofs.Positions.{kept-small}
 use Rattle.filling.proofs.conjuncts.conjuncts.Statement.{statement}
 use Rattle.filling.proofs.conjuncts.conjuncts.Tie as tie
 
 abbrev Inv-loop : tie.InvT-loop
-Inv-loop fixpoint table weights choice draft₀ first next₀ i₀ draft next i = Joining fixpoint table choice draft₀ first draft next i
+Inv-loop fixpoint table positions choice draft₀ first next₀ i₀ draft next i = Joining fixpoint table choice draft₀ first draft next i
 
 abbrev μ-loop : tie.MeasureT-loop
-μ-loop fixpoint table weights choice draft₀ first next₀ i₀ draft next i = length table - i
+μ-loop fixpoint table positions choice draft₀ first next₀ i₀ draft next i = length table - i
 
 loop-holds : tie.Need-loop-holds Inv-loop μ-loop
 loop-holds c = joining-none (c .before .before .before .pre)
 
 chosen-requires : tie.Need-chosen-requires Inv-loop μ-loop
-chosen-requires c κs = omega (arith, c .before .before .before .loop-test .taken, c .before .before .before .before .before .before .before .before .pre .weighed .long)
+chosen-requires c κs =
+    let q = c .before .before .before .before .before .before .before .before .pre .kept in
+    let h = c .before .before .before .loop-test .taken in
+    (omega (arith, h, q .long), kept-small q _ h)
 
 conjoin-requires : tie.Need-conjoin-requires Inv-loop μ-loop
 conjoin-requires c κs =

@@ -12,7 +12,7 @@ use Rattle.normal_form.proofs.choices.form.Statement.{statement}
 use Rattle.normal_form.proofs.choices.form.Tie as tie
 
 abbrev Inv-loop : tie.InvT-loop
-Inv-loop table weights bits draft₀ out₀ index₀ n₀ ones₀ draft out index n ones =
+Inv-loop table positions bits draft₀ out₀ index₀ n₀ ones₀ draft out index n ones =
     (0 < ones)
     × (ones ≤ suc bits)
     × (length draft ≡ length draft₀)
@@ -21,7 +21,7 @@ Inv-loop table weights bits draft₀ out₀ index₀ n₀ ones₀ draft out inde
     × Grown (λ φ. φ) (disjoined table (upTo bits (ones - 1))) (state out₀ index₀) (state out index) n₀ n
 
 abbrev μ-loop : tie.MeasureT-loop
-μ-loop table weights bits draft₀ out₀ index₀ n₀ ones₀ draft out index n ones = suc bits - ones
+μ-loop table positions bits draft₀ out₀ index₀ n₀ ones₀ draft out index n ones = suc bits - ones
 
 loop-holds : tie.Need-loop-holds Inv-loop μ-loop
 loop-holds c =

@@ -11,7 +11,7 @@ use Rattle.normal_form.proofs.choices.with_ones.Statement.{statement}
 use Rattle.normal_form.proofs.choices.with_ones.Tie as tie
 
 abbrev Inv-loop : tie.InvT-loop
-Inv-loop table weights limit ones draft₀ out₀ index₀ first n₀ choice₀ draft out index n choice =
+Inv-loop table positions limit ones draft₀ out₀ index₀ first n₀ choice₀ draft out index n choice =
     (choice ≤ limit)
     × (length draft ≡ length draft₀)
     × (length out ≡ length out₀)
@@ -19,7 +19,7 @@ Inv-loop table weights limit ones draft₀ out₀ index₀ first n₀ choice₀ 
     × Grown (λ φ. φ) (disjoined table (choicesBelow choice ones)) (state out₀ index₀) (state out index) first n
 
 abbrev μ-loop : tie.MeasureT-loop
-μ-loop table weights limit ones draft₀ out₀ index₀ first n₀ choice₀ draft out index n choice = limit - choice
+μ-loop table positions limit ones draft₀ out₀ index₀ first n₀ choice₀ draft out index n choice = limit - choice
 
 loop-holds : tie.Need-loop-holds Inv-loop μ-loop
 loop-holds c = (omega arith, refl, refl, refl, grown-same _ _ (c .before .before .before .before .before .pre .0 .numbered) (c .before .before .before .before .before .pre .1) (λ φ. refl))

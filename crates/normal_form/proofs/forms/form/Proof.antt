@@ -10,8 +10,8 @@ use Rattle.normal_form.proofs.Tiers.{formed-part, short-draft, sized, c
 use Rattle.normal_form.proofs.forms.form.Statement.{statement}
 use Rattle.normal_form.proofs.forms.form.Tie as tie
 
-weigh-requires : tie.Need-weigh-requires
-weigh-requires c κs =
+count-requires : tie.Need-count-requires
+count-requires c κs =
     let q = c .before .before .before .pre in
     record { limit = q .limit; accepted = q .accepted; few = q .few; long = rw (length-replicate {A = ℕ} 131 0) (omega (arith, q .short, accepted-well-formed true _ _ (q .accepted) .few)) }
 
@@ -19,35 +19,35 @@ small-prefix : tie.Need-slice-aggregate-small-2
 small-prefix c = sym (length-take-le _ _ (omega (arith, c .before .before .before .before .words .ensures)))
 
 small-requires : tie.Need-small-requires
-small-requires c κs = sized 256 1023 (c .before .before .before .before .before .before .before .before .before .before .args .result .now) (c .before .before .before .before .words .result) (c .before .before .before .before .before .before .before .before .before .before .pre) (c .before .before .before .before .before .before .weigh .ensures) (omega (arith, short-draft (c .before .before .before .before .before .before .before .before .before .before .args .table .now), c .before .before .if2 .taken)) (omega (arith, c .before .before .before .if1 .taken))
+small-requires c κs = sized 256 1023 (c .before .before .before .before .before .before .before .before .before .before .args .result .now) (c .before .before .before .before .words .result) (c .before .before .before .before .before .before .before .before .before .before .pre) (c .before .before .before .before .before .before .count .ensures) (omega (arith, short-draft (c .before .before .before .before .before .before .before .before .before .before .args .table .now), c .before .before .if2 .taken)) (omega (arith, c .before .before .before .if1 .taken))
 
 returns : tie.Need-returns
-returns c = formed-part (c .before .before .before .before .before .before .before .before .before .before .before .before .before .pre) (c .before .before .before .before .before .before .before .before .before .before .before .before .before .args .result .now) (capped (length (c .before .before .before .before .before .before .before .before .before .before .before .before .before .args .table .now)) (length (c .before .before .before .before .before .before .before .before .before .before .before .before .before .args .result .now)) (c .before .before .before .before .before .before .before .before .before .weigh .ensures .0) (c .before .before .before .before .before .before .before .words .ensures)) (c .before .before .small .ensures)
+returns c = formed-part (c .before .before .before .before .before .before .before .before .before .before .before .before .before .pre) (c .before .before .before .before .before .before .before .before .before .before .before .before .before .args .result .now) (capped (length (c .before .before .before .before .before .before .before .before .before .before .before .before .before .args .table .now)) (length (c .before .before .before .before .before .before .before .before .before .before .before .before .before .args .result .now)) (c .before .before .before .before .before .before .before .before .before .count .ensures .0) (c .before .before .before .before .before .before .before .words .ensures)) (c .before .before .small .ensures)
 
 middle-prefix : tie.Need-slice-aggregate-middle-2
 middle-prefix c = sym (length-take-le _ _ (omega (arith, c .before .before .before .before .words .ensures)))
 
 middle-requires : tie.Need-middle-requires
-middle-requires c κs = sized 1024 4096 (c .before .before .before .before .before .before .before .before .before .before .args .result .now) (c .before .before .before .before .words .result) (c .before .before .before .before .before .before .before .before .before .before .pre) (c .before .before .before .before .before .before .weigh .ensures) (c .before .before .before .before .before .before .before .before .before .before .pre .drafted) (omega (arith, c .before .before .if3 .taken))
+middle-requires c κs = sized 1024 4096 (c .before .before .before .before .before .before .before .before .before .before .args .result .now) (c .before .before .before .before .words .result) (c .before .before .before .before .before .before .before .before .before .before .pre) (c .before .before .before .before .before .before .count .ensures) (c .before .before .before .before .before .before .before .before .before .before .pre .drafted) (omega (arith, c .before .before .if3 .taken))
 
 returns-2 : tie.Need-returns-2
-returns-2 c = formed-part (c .before .before .before .before .before .before .before .before .before .before .before .before .before .pre) (c .before .before .before .before .before .before .before .before .before .before .before .before .before .args .result .now) (capped (length (c .before .before .before .before .before .before .before .before .before .before .before .before .before .args .table .now)) (length (c .before .before .before .before .before .before .before .before .before .before .before .before .before .args .result .now)) (c .before .before .before .before .before .before .before .before .before .weigh .ensures .0) (c .before .before .before .before .before .before .before .words .ensures)) (c .before .before .middle .ensures)
+returns-2 c = formed-part (c .before .before .before .before .before .before .before .before .before .before .before .before .before .pre) (c .before .before .before .before .before .before .before .before .before .before .before .before .before .args .result .now) (capped (length (c .before .before .before .before .before .before .before .before .before .before .before .before .before .args .table .now)) (length (c .before .before .before .before .before .before .before .before .before .before .before .before .before .args .result .now)) (c .before .before .before .before .before .before .before .before .before .count .ensures .0) (c .before .before .before .before .before .before .before .words .ensures)) (c .before .before .middle .ensures)
 
 large-prefix : tie.Need-slice-aggregate-large-2
 large-prefix c = sym (length-take-le _ _ (omega (arith, c .before .before .before .before .words .ensures)))
 
 large-requires : tie.Need-large-requires
-large-requires c κs = sized 1024 16383 (c .before .before .before .before .before .before .before .before .before .before .args .result .now) (c .before .before .before .before .words .result) (c .before .before .before .before .before .before .before .before .before .before .pre) (c .before .before .before .before .before .before .weigh .ensures) (c .before .before .before .before .before .before .before .before .before .before .pre .drafted) (omega arith)
+large-requires c κs = sized 1024 16383 (c .before .before .before .before .before .before .before .before .before .before .args .result .now) (c .before .before .before .before .words .result) (c .before .before .before .before .before .before .before .before .before .before .pre) (c .before .before .before .before .before .before .count .ensures) (c .before .before .before .before .before .before .before .before .before .before .pre .drafted) (omega arith)
 
 returns-3 : tie.Need-returns-3
-returns-3 c = formed-part (c .before .before .before .before .before .before .before .before .before .before .before .before .before .pre) (c .before .before .before .before .before .before .before .before .before .before .before .before .before .args .result .now) (capped (length (c .before .before .before .before .before .before .before .before .before .before .before .before .before .args .table .now)) (length (c .before .before .before .before .before .before .before .before .before .before .before .before .before .args .result .now)) (c .before .before .before .before .before .before .before .before .before .weigh .ensures .0) (c .before .before .before .before .before .before .before .words .ensures)) (c .before .before .large .ensures)
+returns-3 c = formed-part (c .before .before .before .before .before .before .before .before .before .before .before .before .before .pre) (c .before .before .before .before .before .before .before .before .before .before .before .before .before .args .result .now) (capped (length (c .before .before .before .before .before .before .before .before .before .before .before .before .before .args .table .now)) (length (c .before .before .before .before .before .before .before .before .before .before .before .before .before .args .result .now)) (c .before .before .before .before .before .before .before .before .before .count .ensures .0) (c .before .before .before .before .before .before .before .words .ensures)) (c .before .before .large .ensures)
 
 pub form-spec : {M : Type 1} → statement M
 form-spec =
     tie.close
     (tie.spec
     (λ c. search needs)
-    weigh-requires
+    count-requires
     (λ c κs. search needs)
     (λ c. search needs)
     (λ c. search needs)

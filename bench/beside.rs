@@ -1,0 +1,43 @@
+// The normal forms of rules with eight until-like words, by two builds of the library in turn, the one before under names of its own. Each
+// time is the least of 400 rounds after a warm-up; the ratio is the median over the rounds of the one after over the one before.
+#![allow(dead_code)]
+mod rules;
+mod shapes;
+mod timing;
+
+use std::hint::black_box;
+
+extern "C" {
+    fn before_showrule_normal(table: *const u32, words: usize, result: *mut u32, room: usize, form: *mut usize, place: *mut usize) -> u32;
+    fn showrule_normal(table: *const u32, words: usize, result: *mut u32, room: usize, form: *mut usize, place: *mut usize) -> u32;
+}
+
+type Step = unsafe extern "C" fn(*const u32, usize, *mut u32, usize, *mut usize, *mut usize) -> u32;
+
+// The refusal's number and place, and the number of words.
+fn normal_form(step: Step, table: &[u32], result: &mut [u32]) -> (u32, usize, usize) {
+    let (mut form, mut place) = (0, 0);
+    let number = unsafe { step(table.as_ptr(), table.len(), result.as_mut_ptr(), result.len(), &mut form, &mut place) };
+    (number, place, form)
+}
+
+fn main() {
+    for (name, table) in shapes::eight_until_like() {
+        let (mut result, mut result2) = (vec![0; 4096], vec![0; 4096]);
+        let reply = normal_form(showrule_normal, &table, &mut result);
+        assert_eq!(reply, normal_form(before_showrule_normal, &table, &mut result2));
+        assert!(result == result2, "the slices are the same");
+        let rounds = timing::in_turn(
+            400,
+            &mut result,
+            [
+                &mut |r| assert_eq!(normal_form(showrule_normal, black_box(&table), r), reply),
+                &mut |r| assert_eq!(normal_form(before_showrule_normal, black_box(&table), r), reply),
+            ],
+        );
+        println!(
+            "normal form, 8 until-like words, {name}, {} words to {}: before {:.1} us, after {:.1} us, ratio {:.3}",
+            table.len(), reply.2, timing::least_ms(&rounds, 1) * 1e3, timing::least_ms(&rounds, 0) * 1e3, timing::ratio(&rounds, 1)
+        );
+    }
+}
