@@ -6,7 +6,7 @@ use Rattle.table.specs.declared.refusal.Outcome.{Outcome}
 use Rattle.table.specs.declared.refusal.Outcome.the-variants.{Accepted, Refused}
 use Rattle.table.specs.declared.refusal.Refusal.{Refusal}
 use Rattle.table.specs.Refusals.{numberOf, placeOf, outcomeNumber, outcomePlace}
-use Rattle.rows.specs.Row.{rowWords}
+use Rattle.row_words.specs.Row.{rowWords}
 use Rattle.table.specs.declared.answer.Answer.{Answer}
 use Rattle.evaluation.specs.Judging.{scratchAfter}
 use Rattle.boundary.specs.Replies.{FormReply, RowReply, rowFrom, rowLength}

@@ -5,7 +5,7 @@ use mathlib.Core.Bool.{Bool}
 use Rattle.table.specs.declared.refusal.Outcome.{Outcome}
 use Rattle.table.specs.declared.refusal.Outcome.the-variants as outcome
 use Rattle.table.specs.Refusals.{outcomeNumber, outcomePlace}
-use Rattle.rows.specs.Row.{rowWords}
+use Rattle.row_words.specs.Row.{rowWords}
 use Rattle.evaluation.specs.declared.answer.Judged.{Judged}
 use Rattle.evaluation.specs.Answers.{said}
 use Rattle.table.specs.declared.answer.Answer.{Answer}

@@ -9,5 +9,3 @@ pub mod Zeros
 pub mod Remembering
 pub mod Going
 pub mod Growth
-pub mod Putting
-pub mod Placing

@@ -6,7 +6,7 @@ use Rattle.logic.specs.Formula.{Formula}
 use Rattle.table.specs.Numbering.{build}
 use Rattle.numbering.specs.Held.{Held}
 use Rattle.draft.specs.Drafted.{Drafted}
-use Rattle.draft.specs.State.{State, written, Placing}
+use Rattle.placing.specs.State.{State, written, Placing}
 
 -- a slot's number, where it has one, is that of its formula in the table so far; 0 is for none
 pub record Remembered (d numbers built : List ℕ) : Type 0 where

@@ -1,5 +1,4 @@
 // Drafts: the words of a form before they are numbered, and numbering them.
 pub mod number;
-pub mod put;
 pub mod slot;
 mod turn;

@@ -1,8 +1,8 @@
 // Numbering a draft: the words of the root's formula as first needed, each slot's word placed once.
-use crate::put;
 use crate::turn;
 use crate::turn::Turn;
-ghost use Rattle.draft.specs.State.{Numbered, state, written};
+use placing::put;
+ghost use Rattle.placing.specs.State.{Numbered, state, written};
 ghost use Rattle.draft.specs.Numberable.{Numberable, Rooted};
 
 // The number of the root's formula, or 0 where a word of it finds no room. The stack has the slots on the way from the root to what is

@@ -9,24 +9,24 @@ use lib.ListN.{length, getD, take, drop}
 use Rattle.logic.specs.Formula.{Formula, const}
 use Rattle.logic.specs.Lasso.{Lasso}
 use Rattle.logic.specs.Truth.{Sequence, truth}
-use Rattle.rows.specs.Row.{row, countTrue, firstFalse}
-use Rattle.rows.specs.Writing.{RowFor}
+use Rattle.row_words.specs.Row.{row, countTrue, firstFalse}
+use Rattle.row_words.specs.Writing.{RowFor}
 use Rattle.table.specs.declared.refusal.Outcome.{Outcome}
 use Rattle.table.specs.declared.refusal.Outcome.the-variants.{Accepted, Refused}
 use Rattle.table.specs.declared.refusal.Refusal.{Refusal}
 use Rattle.table.specs.Refusals.{first}
 use Rattle.table.specs.Table.{formulaOf, formulas, rule}
-use Rattle.rows.specs.Row.{rowWords}
-use Rattle.evaluation.specs.Checks.{tallyChecks}
+use Rattle.row_words.specs.Row.{rowWords}
+use Rattle.judge_checks.specs.Checks.{tallyChecks}
 use Rattle.table.proofs.First.{first-passed}
 use Rattle.table.proofs.Formulas.{length-formulas}
-use Rattle.evaluation.specs.declared.tally.Tally.{Tally}
+use Rattle.judge_checks.specs.declared.tally.Tally.{Tally}
 use Rattle.evaluation.specs.declared.answer.Judgement.{Judgement}
 use Rattle.evaluation.specs.declared.answer.Judgement.the-variants.{Judged as JudgedAs, Refused as NotJudged}
 use Rattle.evaluation.specs.declared.answer.Judged.{Judged}
-use Rattle.evaluation.specs.Tallies.{isFull, counted, tallyAfter}
+use Rattle.judge_checks.specs.Tallies.{isFull, counted, tallyAfter}
 use Rattle.evaluation.specs.Judging.{lassoOf, rowOf, rowsThen, judgement, replyBy, rowOutcome, judgeOutcome, reply, scratchAfter, lastRow, partAt}
-use Rattle.evaluation.proofs.Outcomes.{Judgeable, judgeable, judge-both}
+use Rattle.judge_checks.proofs.Outcomes.{Judgeable, judgeable, judge-both}
 use Rattle.evaluation.proofs.Scratch.{width, row-part}
 use Rattle.evaluation.proofs.WordRow.{Inside, lasso-inside, accepted-facts, part-small, part-end, part-for}
 

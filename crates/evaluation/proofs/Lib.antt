@@ -1,7 +1,6 @@
 -- The laws of the scratch, and the promise of a judgement.
 pub mod Scratch
 pub mod Looped
-pub mod Outcomes
 pub mod WordRow
 pub mod LastRow
 pub mod Promise

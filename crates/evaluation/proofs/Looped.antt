@@ -11,8 +11,8 @@ use Rattle.logic.specs.Formula.{Formula, Unary, Binary}
 use Rattle.logic.specs.Lasso.{Lasso, letterIn, place, word}
 use Rattle.logic.specs.Truth.{Sequence, Operation, unaryOperation, binaryOperation, looped, truth}
 use Rattle.logic.proofs.Lasso.Sweep.{applied-looped}
-use Rattle.rows.specs.Row.{row}
-use Rattle.rows.specs.Writing.{literal}
+use Rattle.row_words.specs.Row.{row}
+use Rattle.row_words.specs.Writing.{literal}
 use Rattle.rows.proofs.Rows.{row-ext}
 use Rattle.table.specs.Node.{Shape, none, constant, letter, unary, binary, kind, left, right, shapes, shape, leftField, rightField}
 use Rattle.table.specs.Table.{formulaBy, formulaOf, wordFormula}

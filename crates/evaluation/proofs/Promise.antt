@@ -17,15 +17,15 @@ use Rattle.logic.specs.Semantics.{Predicate, Holds}
 use Rattle.logic.specs.Truth.{Sequence, truth}
 use Rattle.logic.proofs.Lasso.Period.{place-lt, truth-place}
 use Rattle.logic.proofs.Lasso.Truth.{truth-holds}
-use Rattle.rows.specs.Row.{bit, digit, row, rowWords, wordOf, countTrue, firstFalse}
-use Rattle.rows.proofs.Bits.{bit-above, pack-lt}
+use Rattle.row_words.specs.Row.{bit, digit, row, rowWords, wordOf, countTrue, firstFalse}
+use Rattle.row_words.proofs.Bits.{bit-above, pack-lt}
 use Rattle.rows.proofs.Rows.{row-length, row-word, word-bit}
 use Rattle.table.specs.declared.refusal.Outcome.{Outcome}
 use Rattle.table.specs.declared.refusal.Outcome.the-variants.{Accepted, Refused}
 use Rattle.table.specs.Refusals.{outcomeNumber, outcomePlace}
 use Rattle.table.specs.Table.{formulas, rule}
 use Rattle.table.proofs.Formulas.{length-formulas}
-use Rattle.evaluation.specs.declared.tally.Tally.{Tally}
+use Rattle.judge_checks.specs.declared.tally.Tally.{Tally}
 use Rattle.evaluation.specs.Judging.{lassoOf, rowOf, rowNumber, holdsIn, rowsThen, rowOutcome, judgeOutcome, replyBy, reply, scratchAfter, lastRow}
 use Rattle.evaluation.specs.Answers.{said, Count, none, one-more, no-more, FirstFailing, Judges}
 use Rattle.evaluation.proofs.Scratch.{width, row-part}

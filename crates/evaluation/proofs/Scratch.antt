@@ -10,7 +10,7 @@ use lib.Seq.{take-at, drop-at, drop-drop, drop-append-add}
 use Rattle.logic.specs.Formula.{Formula, const}
 use Rattle.logic.specs.Lasso.{Lasso}
 use Rattle.rows.proofs.Rows.{row-length}
-use Rattle.rows.specs.Row.{rowWords}
+use Rattle.row_words.specs.Row.{rowWords}
 use Rattle.evaluation.specs.Judging.{rowOf, rowsOf, rowNumber, rowsThen, Standing}
 
 -- the words of one row over a lasso

@@ -12,8 +12,8 @@ use lib.Seq.{take-all, take-suc, length-take-le}
 use Rattle.logic.specs.Formula.{Formula, const}
 use Rattle.logic.specs.Lasso.{Lasso}
 use Rattle.logic.specs.Truth.{Sequence, Operation, truth}
-use Rattle.rows.specs.Row.{row, rowWords}
-use Rattle.rows.specs.Writing.{RowFor}
+use Rattle.row_words.specs.Row.{row, rowWords}
+use Rattle.row_words.specs.Writing.{RowFor}
 use Rattle.table.specs.declared.refusal.Outcome.the-variants.{Accepted}
 use Rattle.table.specs.Node.{kind, right, shape}
 use Rattle.table.specs.Table.{formulaOf, wordFormula, formulas}
@@ -22,7 +22,7 @@ use Rattle.table.proofs.Accepted.{WellFormedWord}
 use Rattle.evaluation.specs.declared.operators.Operator.{Operator}
 use Rattle.evaluation.specs.Judging.{lassoBy, lassoOf, rowOf, rowNumber, rowOutcome, rowsThen, Standing}
 use Rattle.evaluation.specs.Looped.{Meaning, literally, operation, meaning, does, rowBy, Prepared, firstOperand}
-use Rattle.evaluation.proofs.Outcomes.{Judgeable, judgeable}
+use Rattle.judge_checks.proofs.Outcomes.{Judgeable, judgeable}
 use Rattle.evaluation.proofs.Looped.{Earlier, operands-earlier, letter-known, word-row}
 use Rattle.evaluation.proofs.Scratch.{width, row-end, row-part, rowsThen-over, rowsThen-more}
 

@@ -8,17 +8,17 @@ use lib.Dec.{lit<}
 use Rattle.logic.specs.Formula.{Formula}
 use Rattle.logic.specs.Lasso.{Lasso}
 use Rattle.logic.specs.Truth.{Sequence, truth}
-use Rattle.rows.specs.Row.{bit, row, rowWords, countTrue, firstFalse}
+use Rattle.row_words.specs.Row.{bit, row, rowWords, countTrue, firstFalse}
 use Rattle.table.specs.declared.refusal.Outcome.{Outcome}
 use Rattle.table.specs.declared.refusal.Outcome.the-variants.{Accepted, Refused}
 use Rattle.table.specs.Refusals.{first}
 use Rattle.table.specs.Table.{formulas, rule}
-use Rattle.evaluation.specs.declared.tally.Tally.{Tally}
+use Rattle.judge_checks.specs.declared.tally.Tally.{Tally}
 use Rattle.evaluation.specs.declared.answer.Judgement.{Judgement}
 use Rattle.evaluation.specs.declared.answer.Judgement.the-variants.{Judged as JudgedAs, Refused as NotJudged}
 use Rattle.evaluation.specs.declared.answer.Judged.{Judged}
-use Rattle.evaluation.specs.Tallies.{counted}
-use Rattle.evaluation.specs.Checks.{rowChecks, judgeChecks}
+use Rattle.judge_checks.specs.Tallies.{counted}
+use Rattle.judge_checks.specs.Checks.{rowChecks, judgeChecks}
 
 -- samples and a loop start as a lasso; where the loop start is not below their number, which is refused, a single sample 0
 abbrev pub lassoBy : (samples : List ℕ) (start : ℕ) → Dec (start < length samples) → Lasso

@@ -1,6 +1,4 @@
 -- What a judgement answers, what it leaves in the scratch, and the tally after it.
-pub mod Tallies
-pub mod Checks
 pub mod Judging
 pub mod Answers
 pub mod Looped

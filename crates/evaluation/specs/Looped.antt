@@ -7,8 +7,8 @@ use mathlib.Core.List.{List}
 use lib.ListN.{getD}
 use lib.Dec.{eqb}
 use Rattle.logic.specs.Truth.{Sequence, Operation, each, shifted, fixpoint, unaryOperation, binaryOperation, across, looped}
-use Rattle.rows.specs.Row.{row}
-use Rattle.rows.specs.Writing.{joins, literal}
+use Rattle.row_words.specs.Row.{row}
+use Rattle.row_words.specs.Writing.{joins, literal}
 use Rattle.table.specs.Node.{Shape, none, constant, letter, unary, binary, left, right}
 use Rattle.evaluation.specs.declared.operators.Operator.{Operator}
 use Rattle.evaluation.specs.declared.operators.Operator.the-variants.{Constant, Letter, Each, Next, Fixpoint}

@@ -1,5 +1,5 @@
 // What a judgement answers.
-use crate::tally::Tally;
+use judge_checks::tally::Tally;
 use table::refusal::Refusal;
 
 // Whether the rule holds at the first position, at how many positions, and the first position at which it fails.

@@ -1,26 +1,24 @@
 // Judging a rule over a looped recording: the rows of all its words, the answer read off the last one, and the tally.
 pub mod answer;
-mod checks;
 mod filling;
 mod operators;
-pub mod tally;
 
 ghost use mathlib.Core.Path.{_≡_};
-ghost use Rattle.rows.specs.Writing.{RowFor};
-ghost use Rattle.rows.specs.Row as rows;
+ghost use Rattle.row_words.specs.Writing.{RowFor};
+ghost use Rattle.row_words.specs.Row as rows;
 ghost use Rattle.logic.specs.Truth.{Sequence};
 ghost use Rattle.table.specs.declared.refusal.Outcome.the-variants.{Accepted};
 ghost use Rattle.table.specs.Table.{formulas};
 ghost use Rattle.evaluation.specs.Judging.{lassoOf, rowsThen, rowOutcome, judgeOutcome, judgement, reply, scratchAfter, lastRow, partAt};
 ghost use Rattle.table.specs.Refusals.{outcomeNumber, outcomePlace};
-ghost use Rattle.evaluation.specs.Tallies.{tallyAfter};
+ghost use Rattle.judge_checks.specs.Tallies.{tallyAfter};
 use crate::answer::Judged;
 use crate::answer::Judgement;
-use crate::checks::check_judge;
-use crate::checks::check_row;
-use crate::checks::row_words;
 use crate::filling::fill_rows;
-use crate::tally::Tally;
+use judge_checks::checks::check_judge;
+use judge_checks::checks::check_row;
+use judge_checks::checks::row_words;
+use judge_checks::tally::Tally;
 use rows::read::count_held;
 use rows::read::first_failing;
 use rows::read::holds_at;

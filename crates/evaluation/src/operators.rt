@@ -2,7 +2,7 @@
 ghost use mathlib.Core.Path.{_≡_};
 ghost use Rattle.table.specs.Node.{shape};
 ghost use Rattle.evaluation.specs.Looped.{meaning, does};
-use rows::connective::Connective;
+use row_words::connective::Connective;
 
 // A constant; a letter or its denial; a connective of the operands; the next position's value; or the least or greatest fixpoint of:
 // the goal now, or the keep now and the same at the next position.

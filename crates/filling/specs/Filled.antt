@@ -13,7 +13,7 @@ use Rattle.table.specs.Checks.{checked}
 use Rattle.draft.specs.Slot.{pack}
 use Rattle.draft.specs.Drafted.{SlotIs, Drafted}
 use Rattle.table.specs.Numbering.{build}
-use Rattle.draft.specs.State.{State, written, Placing}
+use Rattle.placing.specs.State.{State, written, Placing}
 use Rattle.filling.specs.declared.rewriting.Rewriting.{Rewriting}
 use Rattle.filling.specs.Slots.{by, place}
 use Rattle.fixpoints.specs.Positions.{Kept}

@@ -29,7 +29,7 @@ use Rattle.numbering.proofs.Building.{tableOf-distinct}
 use Rattle.numbering.proofs.Built.{Built, Hereditary, tableOf-built, made-held, held-once}
 use Rattle.numbering.proofs.Used.{rule-tableOf}
 use Rattle.numbering.proofs.Accepted.{plain-small, accepted-tableOf}
-use Rattle.draft.proofs.Putting.{fits-true}
+use Rattle.placing.proofs.Putting.{fits-true}
 use Rattle.nnf.specs.Forming.{formOf, slotOf}
 use Rattle.nnf.proofs.Filling.{slot-same, slot-bounds}
 use Rattle.logic.proofs.Pigeonhole.{pigeonhole}

@@ -22,11 +22,11 @@ use Rattle.table.specs.Checks.{checked}
 use Rattle.table.specs.Table.{rule}
 use Rattle.table.specs.Numbering.{fits, build, tableOf}
 use Rattle.table.specs.Steps.{plainTable}
-use Rattle.draft.specs.State.{State, state, count, written, Numbered, Placing}
+use Rattle.placing.specs.State.{State, state, count, written, Numbered, Placing}
 use Rattle.draft.specs.Drafted.{Drafted}
 use Rattle.draft.specs.Numberable.{Numberable, Rooted}
-use Rattle.draft.proofs.Putting.{fits-true, fits-false, numbered-none}
-use Rattle.draft.proofs.Placing.{true-fits, false-fits, placing-fits, placing-unfit, build-positive, placing-whole, whole-count, whole-out}
+use Rattle.placing.proofs.Putting.{fits-true, fits-false, numbered-none}
+use Rattle.placing.proofs.Placing.{true-fits, false-fits, placing-fits, placing-unfit, build-positive, placing-whole, whole-count, whole-out}
 use Rattle.draft.proofs.Remembering.{remembered-none}
 use Rattle.nnf.specs.Written.{slots, Writable, Written}
 use Rattle.nnf.specs.Forming.{Empty}

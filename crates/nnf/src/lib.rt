@@ -1,6 +1,6 @@
 // The plain-form step: a written table goes in, and its plain form's table comes out at the front of the result.
 use draft::number;
-use draft::put;
+use placing::put;
 use table::answer::Answer;
 use table::limits::Limits;
 use table::refusal::Outcome;

@@ -16,7 +16,7 @@ use Rattle.table.specs.Table.{rule}
 use Rattle.table.specs.Steps.{fixpoints}
 use Rattle.table.specs.Node.{pack, binaryKind}
 use Rattle.table.specs.Numbering.{put, build}
-use Rattle.draft.specs.State.{State, written, Numbered, Placing, Putting}
+use Rattle.placing.specs.State.{State, written, Numbered, Placing, Putting}
 use Rattle.normal_form.specs.Growing.{disjoined, choicesBelow, Grown}
 use Rattle.normal_form.proofs.Growth.{grown-none, grown-full, grown-more, grown-as, grown-same}
 use Rattle.normal_laws.proofs.ChoiceOrder.{below-other, disjoined-append, disjoined-taken, upTo, upTo-more, normalForm-disjoined}

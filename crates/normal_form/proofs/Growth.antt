@@ -8,9 +8,9 @@ use Rattle.logic.specs.Formula.{Formula, Binary, bin}
 use Rattle.table.specs.Node.{pack, binaryKind}
 use Rattle.table.specs.Numbering.{put, build}
 use Rattle.numbering.proofs.Building.{Grows, grows-trans, put-grows, build-grows, build-bin}
-use Rattle.draft.specs.State.{State, written, Numbered, Placing, Putting}
+use Rattle.placing.specs.State.{State, written, Numbered, Placing, Putting}
 use Rattle.draft.specs.Numberable.{Numberable}
-use Rattle.draft.proofs.Placing.{placing-written, placing-answer, placing-full, placing-grows, placing-reached, placing-on, build-positive}
+use Rattle.placing.proofs.Placing.{placing-written, placing-answer, placing-full, placing-grows, placing-reached, placing-on, build-positive}
 use Rattle.draft.proofs.Remembering.{remembered-none}
 use Rattle.filling.specs.Filled.{Rootable}
 use Rattle.normal_form.specs.Growing.{Grown, Ready}

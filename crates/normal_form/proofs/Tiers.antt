@@ -17,9 +17,9 @@ use Rattle.filling.specs.Filled.{draftSize}
 use Rattle.fixpoints.specs.Positions.{Kept}
 use Rattle.table.specs.Numbering.{build, tableOf, fits}
 use Rattle.table.specs.Steps.{fixpoints, normalTable}
-use Rattle.draft.specs.State.{State, state, count, written, Placing}
-use Rattle.draft.proofs.Putting.{numbered-none, fits-true, fits-false}
-use Rattle.draft.proofs.Placing.{true-fits, false-fits, placing-fits, placing-unfit, build-positive, placing-whole, whole-count, whole-out}
+use Rattle.placing.specs.State.{State, state, count, written, Placing}
+use Rattle.placing.proofs.Putting.{numbered-none, fits-true, fits-false}
+use Rattle.placing.proofs.Placing.{true-fits, false-fits, placing-fits, placing-unfit, build-positive, placing-whole, whole-count, whole-out}
 use Rattle.numbering.proofs.Building.{tableOf-long}
 use Rattle.normal_form.specs.Growing.{Formable}
 use Rattle.normal_form.specs.Forms.{mostWords, Accepted, Positioned, Sized, Formed}

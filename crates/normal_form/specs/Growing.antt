@@ -10,7 +10,7 @@ use Rattle.logic.specs.NormalForm.{part, keep, from}
 use Rattle.table.specs.Numbering.{build}
 use Rattle.table.specs.Table.{rule}
 use Rattle.table.specs.Steps.{fixpoints}
-use Rattle.draft.specs.State.{State, written, Numbered, Placing}
+use Rattle.placing.specs.State.{State, written, Numbered, Placing}
 use Rattle.filling.specs.Filled.{Fillable}
 
 -- a formula, or the parts of choices, joined from the left

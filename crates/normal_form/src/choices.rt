@@ -1,6 +1,6 @@
 // The parts of all choices, fewer chosen words first and equal counts by lower number, joined by or.
 use crate::part;
-use draft::put;
+use placing::put;
 use table::kinds;
 use table::word;
 ghost use Prim.Native.Nat.{suc, _<_};
@@ -9,7 +9,7 @@ ghost use Rattle.logic.specs.NormalForm.{normalForm};
 ghost use Rattle.table.specs.Numbering.{build};
 ghost use Rattle.table.specs.Table.{rule};
 ghost use Rattle.table.specs.Steps as steps;
-ghost use Rattle.draft.specs.State.{state, written, Placing};
+ghost use Rattle.placing.specs.State.{state, written, Placing};
 ghost use Rattle.normal_form.specs.Growing.{disjoined, choicesBelow, Ready, Formable, Grown};
 
 // The number of `n or p`, with p the part of the choice, if it has so many chosen words, and n otherwise.

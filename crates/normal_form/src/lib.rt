@@ -1,5 +1,5 @@
 // The normal-form step: a plain table goes in, and its normal form's table comes out at the front of the result.
-use draft::put;
+use placing::put;
 use table::answer::Answer;
 use table::limits::Limits;
 use table::refusal::Outcome;

@@ -7,7 +7,7 @@ ghost use Rattle.logic.specs.NormalForm as normal;
 ghost use Rattle.table.specs.Numbering.{build};
 ghost use Rattle.table.specs.Table.{rule};
 ghost use Rattle.table.specs.Steps as steps;
-ghost use Rattle.draft.specs.State.{state, written, Numbered, Placing};
+ghost use Rattle.placing.specs.State.{state, written, Numbered, Placing};
 ghost use Rattle.filling.specs.Filled.{Rootable, Placed};
 ghost use Rattle.normal_form.specs.Growing.{Ready};
 

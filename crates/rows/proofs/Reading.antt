@@ -9,8 +9,8 @@ use lib.ListN.{length, getD}
 use lib.Bits.{bitXor}
 use lib.Count.{ones, ones-step, ones-ones, trailingZeros, under}
 use Rattle.logic.specs.Truth.{Sequence}
-use Rattle.rows.specs.Row.{digit, packBits, rowWords, filled, wordOf, row, countTrue, firstFalse}
-use Rattle.rows.proofs.Bits.{pack-half, pack-odd, pack-not}
+use Rattle.row_words.specs.Row.{digit, packBits, rowWords, filled, wordOf, row, countTrue, firstFalse}
+use Rattle.row_words.proofs.Bits.{pack-half, pack-odd, pack-not}
 use Rattle.rows.proofs.Rows.{row-length, row-word}
 
 -- ---- the positions that hold

@@ -12,9 +12,9 @@ use lib.ListN.{length, getD, set}
 use lib.Seq.{getD-set-same, getD-set-other, ext-getD}
 use Rattle.logic.specs.Truth.{Sequence, sweep, shifted, looped}
 use Rattle.logic.proofs.Lasso.Sequence.{sweep-append}
-use Rattle.rows.specs.Row.{bit, packBits, rowWords, filled, wordOf, wordsFrom, row, Written, wordSweep, nowhere}
-use Rattle.rows.proofs.Bits.{bit-pack, bit-zero, pack-ext}
-use Rattle.rows.proofs.Sweep.{sweep-done, sweep-carry}
+use Rattle.row_words.specs.Row.{bit, packBits, rowWords, filled, wordOf, wordsFrom, row, Written, wordSweep, nowhere}
+use Rattle.row_words.proofs.Bits.{bit-pack, bit-zero, pack-ext}
+use Rattle.row_words.proofs.Sweep.{sweep-done, sweep-carry}
 
 -- ---- a row's words
 

@@ -3,11 +3,11 @@ ghost use mathlib.Core.Path.{_≡_};
 ghost use Prim.Native.Nat.{ℕ, _/_, _≤_, _<_};
 ghost use lib.ListN.{length};
 ghost use Rattle.logic.specs.Truth.{Sequence};
-ghost use Rattle.rows.specs.Row as rows;
-ghost use Rattle.rows.specs.Writing.{RowFor};
-use super::word::bit;
-use super::word::filled;
-use super::word::ones;
+ghost use Rattle.row_words.specs.Row as rows;
+ghost use Rattle.row_words.specs.Writing.{RowFor};
+use row_words::word::bit;
+use row_words::word::filled;
+use row_words::word::ones;
 
 // Whether the row holds at a position.
 pub fn holds_at(row: &[u64], i: usize) -> bool

@@ -5,18 +5,18 @@ ghost use mathlib.Core.Bool.{false};
 ghost use Prim.Native.Nat.{ℕ, _-_, _≤_, _<_};
 ghost use lib.ListN.{length, getD};
 ghost use Rattle.logic.specs.Truth.{Sequence, sweep, across, shifted, looped, closedSweep};
-ghost use Rattle.rows.specs.Row as rows;
-ghost use Rattle.rows.specs.Writing.{RowFor, joins, literal};
-use super::connective::Connective;
-use super::word::bit;
-use super::word::carried;
-use super::word::closed;
-use super::word::constant;
-use super::word::filled;
-use super::word::join;
-use super::word::lead;
-use super::word::letters;
-use super::word::shift;
+ghost use Rattle.row_words.specs.Row as rows;
+ghost use Rattle.row_words.specs.Writing.{RowFor, joins, literal};
+use row_words::connective::Connective;
+use row_words::word::bit;
+use row_words::word::carried;
+use row_words::word::closed;
+use row_words::word::constant;
+use row_words::word::filled;
+use row_words::word::join;
+use row_words::word::lead;
+use row_words::word::letters;
+use row_words::word::shift;
 
 pub fn write_constant(row: &mut [u64], positions: usize, value: bool)
     requires { ⌜ RowFor positions (now row) ⌝ }

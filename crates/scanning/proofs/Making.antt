@@ -11,7 +11,7 @@ use lib.Dec.{eqb, leb}
 use borrow.Author.Tests.{eq-eqb, ne-eqb, le-leb, lt-leb, leb-true}
 use Rattle.table.specs.Node.{kind, left, pack}
 use Rattle.table.specs.Numbering.{put}
-use Rattle.draft.specs.State.{State, count, written, Numbered}
+use Rattle.placing.specs.State.{State, count, written, Numbered}
 use Rattle.scanning.specs.declared.sign.Sign.{Sign}
 use Rattle.scanning.specs.declared.reader.Turn.{Turn}
 use Rattle.scanning.specs.declared.reader.Turn.the-variants as turns

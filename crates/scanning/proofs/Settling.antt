@@ -8,8 +8,8 @@ use mathlib.Core.List.{List, [], _∷_}
 use lib.ListN.{length, getD, length-append}
 use Rattle.table.specs.Node.{kind, pack}
 use Rattle.table.specs.Numbering.{Placed, find, placeAt, put, fits}
-use Rattle.draft.specs.State.{State, count, written, Numbered, Placing, Putting}
-use Rattle.draft.proofs.Putting.{fits-true, written-length}
+use Rattle.placing.specs.State.{State, count, written, Numbered, Placing, Putting}
+use Rattle.placing.proofs.Putting.{fits-true, written-length}
 use Rattle.scanning.specs.declared.reader.Operand.{Operand}
 use Rattle.scanning.specs.Numbers.{Ended, isPrefix, settleWords, topFirst, placedIn, Room, Settles}
 

@@ -8,7 +8,7 @@ use lib.Dec.{eqb, leb}
 use Rattle.logic.specs.Formula.{Formula, Unary, Binary}
 use Rattle.table.specs.Node.{kind, left, pack, unaryKind, binaryKind}
 use Rattle.table.specs.Numbering.{Placed, put}
-use Rattle.draft.specs.State as draft
+use Rattle.placing.specs.State as draft
 use Rattle.scanning.specs.declared.sign.Sign.{Sign}
 use Rattle.scanning.specs.declared.sign.Sign.the-variants.{Blank, Constant, Letter, Prefix, Operator, Open, Close, Unknown}
 use Rattle.scanning.specs.declared.reader.Turn.{Turn}

@@ -2,14 +2,14 @@
 // The stack holds a word for each prefix and each operator whose right operand is not yet read, and 0 for a bracket without an operator.
 use crate::sign;
 use crate::sign::Sign;
-use draft::put;
+use placing::put;
 use table::word;
 ghost use mathlib.Core.Path.{_≡_};
 ghost use mathlib.Core.List.{List, _∷_};
 ghost use Prim.Native.Nat.{ℕ, _+_, _*_, _-_, _≤_, _<_, suc};
 ghost use lib.ListN.{length};
 ghost use Rattle.table.specs.Numbering as numbering;
-ghost use Rattle.draft.specs.State.{state, written, count};
+ghost use Rattle.placing.specs.State.{state, written, count};
 ghost use Rattle.grammar.specs.Reader as machine;
 ghost use Rattle.scanning.specs.Numbers as numbers;
 

@@ -21,8 +21,8 @@ use Rattle.table.specs.Numbering.{tableOf, room, fits}
 use Rattle.table.specs.Frame.{Step, answerOf, resultOf}
 use Rattle.table.proofs.First.{AllRefusals, first-refusal}
 use Rattle.table.proofs.Frame.{Early, refused-answer, refused-result, too-long-answer, too-long-result, made-answer, made-result}
-use Rattle.draft.specs.State as draft
-use Rattle.draft.proofs.Putting.{written-length, numbered-none, fits-true, fits-false}
+use Rattle.placing.specs.State as draft
+use Rattle.placing.proofs.Putting.{written-length, numbered-none, fits-true, fits-false}
 use Rattle.grammar.specs.Reader.{isNone, readingOf, departureOf}
 use Rattle.text.specs.Text.{tableBy, textTable, textStep, Fresh, Parsed}
 

@@ -12,8 +12,8 @@ use lib.Dec.{eqb}
 use borrow.Author.Tests.{ne-eqb}
 use Rattle.logic.specs.Formula.{Formula, lit}
 use Rattle.table.specs.Numbering.{build, tableOf}
-use Rattle.draft.specs.State as draft
-use Rattle.draft.proofs.Putting.{written-length}
+use Rattle.placing.specs.State as draft
+use Rattle.placing.proofs.Putting.{written-length}
 use Rattle.scanning.specs.declared.reader.Turn.{Turn}
 use Rattle.scanning.specs.declared.reader.Turn.the-variants as turns
 use Rattle.scanning.specs.declared.reader.Reader.{Reader}

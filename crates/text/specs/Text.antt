@@ -11,7 +11,7 @@ use Rattle.table.specs.declared.limits.Limits.{Limits}
 use Rattle.table.specs.Refusals.{_⇒_}
 use Rattle.table.specs.Numbering.{tableOf}
 use Rattle.table.specs.Frame.{Step}
-use Rattle.draft.specs.State as draft
+use Rattle.placing.specs.State as draft
 use Rattle.grammar.specs.Reader.{isNone, readingOf, departureOf}
 
 -- a text is at most so many bytes long

@@ -1,5 +1,5 @@
 // Rules typed as text: a text goes in, and its rule's table comes out at the front of the result.
-use draft::put;
+use placing::put;
 use scanning::reader;
 use scanning::reader::Reader;
 use scanning::reader::Turn;
@@ -9,7 +9,7 @@ ghost use mathlib.Core.Path.{_≡_};
 ghost use mathlib.Core.List.{_++_};
 ghost use Prim.Native.Nat.{_≤_};
 ghost use lib.ListN.{length, take, drop};
-ghost use Rattle.draft.specs.State.{state};
+ghost use Rattle.placing.specs.State.{state};
 ghost use Rattle.table.specs.Limits.{desk};
 ghost use Rattle.table.specs.Frame.{answerOf, resultOf};
 ghost use Rattle.scanning.specs.Numbers.{isStuck, isEnded};

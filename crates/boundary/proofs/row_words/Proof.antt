@@ -1,4 +1,4 @@
-use Rattle.rows.specs.Row.{rowWords}
+use Rattle.row_words.specs.Row.{rowWords}
 use native.Mathlib.Omega.{arith}
 use borrow.Author.Needs.{needs}
 use Rattle.boundary.proofs.row_words.Statement.{statement}

@@ -5,7 +5,7 @@ use mathlib.Core.Path.{_≡_, refl, sym, ap, _∙_}
 use mathlib.Core.Bool.{true≢false}
 use lib.ListN.{length}
 use borrow.Author.Needs.{needs}
-use Rattle.draft.specs.State.{state, Numbered}
+use Rattle.placing.specs.State.{state, Numbered}
 use Rattle.scanning.specs.Numbers.{viewed, Fit, Room}
 use Rattle.scanning.proofs.Settling.{top-length}
 use Rattle.text.proofs.Parsing.{Going, going-more, going-dead, going-read, going-early, going-room, fresh-going, departed, was-read}

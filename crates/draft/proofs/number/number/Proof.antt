@@ -4,10 +4,10 @@ use native.Mathlib.Omega.{arith}
 use mathlib.Core.Path.{_≡_, refl, sym, _∙_}
 use lib.ListN.{length, getD, length-set}
 use borrow.Author.Needs.{needs}
-use Rattle.draft.specs.State.{state}
+use Rattle.placing.specs.State.{state}
 use Rattle.draft.specs.Turn.{turnOf}
 use Rattle.draft.specs.declared.turn.Turn.the-variants.{Word}
-use Rattle.draft.proofs.Placing.{placing-again}
+use Rattle.placing.proofs.Placing.{placing-again}
 use Rattle.draft.proofs.Zeros.{zeros, zeros-set}
 use Rattle.draft.proofs.Going.{Going, going-start, going-push, going-full, going-done, going-pop, going-low, going-none, going-turnable, going-earlier, root-within}
 use Rattle.draft.proofs.number.number.Statement.{statement}

@@ -3,7 +3,7 @@ use Prim.Native.Nat.{suc, _-_, _≤_, _<_}
 use mathlib.Core.Path.{_≡_, refl, _∙_}
 use lib.ListN.{length}
 use native.Mathlib.Omega.{arith}
-use Rattle.draft.specs.State.{state}
+use Rattle.placing.specs.State.{state}
 use Rattle.normal_form.specs.Growing.{disjoined, Grown}
 use Rattle.normal_form.proofs.Growth.{placing-small, grown-same, grown-then, ready-again}
 use Rattle.normal_laws.proofs.ChoiceOrder.{upTo}

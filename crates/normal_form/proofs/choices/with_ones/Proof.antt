@@ -4,7 +4,7 @@ use mathlib.Core.Path.{_≡_, refl, _∙_}
 use lib.ListN.{length}
 use native.Mathlib.Omega.{arith}
 use native.Mathlib.Numerals.{add-one}
-use Rattle.draft.specs.State.{state}
+use Rattle.placing.specs.State.{state}
 use Rattle.normal_form.specs.Growing.{disjoined, choicesBelow, Grown}
 use Rattle.normal_form.proofs.Growth.{grown-same, grown-then, ready-again}
 use Rattle.normal_form.proofs.choices.with_ones.Statement.{statement}

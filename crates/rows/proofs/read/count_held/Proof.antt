@@ -5,7 +5,7 @@ use Prim.Native.Nat.{ℕ, _≤_, _-_, _*_, min}
 use native.Mathlib.Omega.{arith}
 use lib.ListN.{length, getD}
 use Rattle.logic.specs.Truth.{Sequence}
-use Rattle.rows.specs.Row as rows
+use Rattle.row_words.specs.Row as rows
 use lib.Count.{ones, ones-le}
 use Rattle.rows.proofs.Reading.{count-none, count-word, count-all}
 use Rattle.rows.proofs.read.count_held.Statement.{statement}

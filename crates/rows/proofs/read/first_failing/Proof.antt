@@ -5,7 +5,7 @@ use Prim.Native.Nat.{_≤_, _-_, _*_, min}
 use native.Mathlib.Omega.{arith}
 use lib.ListN.{length, getD}
 use Rattle.logic.specs.Truth.{Sequence}
-use Rattle.rows.specs.Row as rows
+use Rattle.row_words.specs.Row as rows
 use lib.Bits.{bitXor}
 use lib.Count.{trailing-le}
 use Rattle.rows.proofs.Reading.{word-holds, word-fails, first-none}

@@ -8,8 +8,8 @@ use native.Mathlib.Omega.{arith}
 use lib.Dec.{eqb}
 use lib.ListN.{length, length-set}
 use Rattle.logic.specs.Truth.{Sequence, sweep}
-use Rattle.rows.specs.Row as rows
-use Rattle.rows.proofs.Sweep.{sweep-done}
+use Rattle.row_words.specs.Row as rows
+use Rattle.row_words.proofs.Sweep.{sweep-done}
 use Rattle.rows.proofs.Rows.{row-pack, in-row, word-low, word-swept, sweep-word, written-none, written-row, written-down, written-below}
 use Rattle.rows.proofs.write.carry_down.Statement.{statement}
 use Rattle.rows.proofs.write.carry_down.Tie as tie

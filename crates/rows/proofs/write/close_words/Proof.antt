@@ -6,7 +6,7 @@ use Prim.Native.Nat.{ℕ, _≤_, _-_, _*_}
 use native.Mathlib.Omega.{arith}
 use lib.ListN.{length, length-set}
 use Rattle.logic.specs.Truth.{Sequence}
-use Rattle.rows.specs.Row as rows
+use Rattle.row_words.specs.Row as rows
 use Rattle.rows.proofs.Rows.{row-pack, word-swept, written-none, written-row, written-up}
 use Rattle.rows.proofs.write.close_words.Statement.{statement}
 use Rattle.rows.proofs.write.close_words.Tie as tie

@@ -5,8 +5,8 @@ use Prim.Native.Nat.{_≤_, _<_, _-_, _*_}
 use native.Mathlib.Omega.{arith}
 use lib.ListN.{length, length-set}
 use Rattle.logic.specs.Truth.{Sequence, across}
-use Rattle.rows.specs.Row as rows
-use Rattle.rows.specs.Writing.{joins}
+use Rattle.row_words.specs.Row as rows
+use Rattle.row_words.specs.Writing.{joins}
 use Rattle.rows.proofs.Rows.{row-pack, pack-word, written-none, written-row, written-up}
 use Rattle.rows.proofs.write.join_words.Statement.{statement}
 use Rattle.rows.proofs.write.join_words.Tie as tie

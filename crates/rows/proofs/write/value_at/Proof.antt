@@ -6,8 +6,8 @@ use Prim.Native.Nat.{ℕ, _≤_, _-_, _+_}
 use native.Mathlib.Omega.{arith}
 use lib.ListN.{length}
 use Rattle.logic.specs.Truth.{Sequence, sweep}
-use Rattle.rows.specs.Row as rows
-use Rattle.rows.proofs.Sweep.{sweep-done}
+use Rattle.row_words.specs.Row as rows
+use Rattle.row_words.proofs.Sweep.{sweep-done}
 use Rattle.rows.proofs.Rows.{row-bit, row-pack, lead-bit, goal-reached, keep-failed, word-passed}
 use Rattle.rows.proofs.write.value_at.Statement.{statement}
 use Rattle.rows.proofs.write.value_at.Tie as tie

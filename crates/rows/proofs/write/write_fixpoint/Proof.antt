@@ -4,7 +4,7 @@ use mathlib.Core.Bool.{Bool}
 use Prim.Native.Nat.{_-_}
 use native.Mathlib.Omega.{arith}
 use Rattle.logic.specs.Truth.{sweep}
-use Rattle.rows.specs.Row.{row}
+use Rattle.row_words.specs.Row.{row}
 use borrow.Author.Needs.{needs}
 use Rattle.rows.proofs.write.write_fixpoint.Statement.{statement}
 use Rattle.rows.proofs.write.write_fixpoint.Tie as tie

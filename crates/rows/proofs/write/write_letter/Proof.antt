@@ -4,8 +4,8 @@ use mathlib.Core.Path.{_≡_, refl}
 use Prim.Native.Nat.{_≤_, _-_}
 use native.Mathlib.Omega.{arith}
 use lib.ListN.{length, length-set, getD}
-use Rattle.rows.specs.Row as rows
-use Rattle.rows.specs.Writing.{literal}
+use Rattle.row_words.specs.Row as rows
+use Rattle.row_words.specs.Writing.{literal}
 use Rattle.rows.proofs.Rows.{pack-word, written-none, written-row, written-up}
 use Rattle.rows.proofs.write.write_letter.Statement.{statement}
 use Rattle.rows.proofs.write.write_letter.Tie as tie

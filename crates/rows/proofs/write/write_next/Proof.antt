@@ -8,7 +8,7 @@ use borrow.Author.Tests.{lt-ltb, le-ltb}
 use lib.Dec.{ltb}
 use lib.ListN.{length, length-set}
 use Rattle.logic.specs.Truth.{Sequence, shifted, looped}
-use Rattle.rows.specs.Row as rows
+use Rattle.row_words.specs.Row as rows
 use Rattle.rows.proofs.Rows.{row-bit, row-low, row-pack, next-word, written-none, written-row, written-down}
 use Rattle.rows.proofs.write.write_next.Statement.{statement}
 use Rattle.rows.proofs.write.write_next.Tie as tie

@@ -1,7 +1,7 @@
 -- By the sign, where an operand is to begin.
 use native.Mathlib.Omega.{arith}
 use mathlib.Core.Path.{_≡_, sym, ap, _∙_, subst}
-use Rattle.draft.specs.State.{state, written}
+use Rattle.placing.specs.State.{state, written}
 use Rattle.scanning.specs.declared.sign.Sign.{Sign}
 use Rattle.scanning.specs.declared.sign.Sign.the-variants.{Blank, Constant, Letter, Prefix, Operator, Open, Close, Unknown}
 use Rattle.scanning.specs.Numbers.{Kinded, Words, beginWords, topFirst}

@@ -1,7 +1,7 @@
 -- A word is put, and the prefixes follow.
 use native.Mathlib.Omega.{arith}
 use borrow.Author.Needs.{needs}
-use Rattle.draft.specs.State.{state}
+use Rattle.placing.specs.State.{state}
 use Rattle.scanning.proofs.Settling.{put-made, Put, end-room, end-settles}
 use Rattle.scanning.proofs.reader.end.Statement.{statement}
 use Rattle.scanning.proofs.reader.end.Tie as tie

@@ -6,7 +6,7 @@ use lib.ListN.{length}
 use borrow.Author.Needs.{needs}
 use borrow.Author.Tests.{not-true, not-false}
 use Rattle.table.proofs.Fields.{kind-lt}
-use Rattle.draft.specs.State.{state}
+use Rattle.placing.specs.State.{state}
 use Rattle.scanning.proofs.Settling.{Settling, settling-none, settling-more, settling-stop, settling-empty}
 use Rattle.scanning.proofs.reader.settle.Statement.{statement}
 use Rattle.scanning.proofs.reader.settle.Tie as tie

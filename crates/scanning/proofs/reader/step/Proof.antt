@@ -1,7 +1,7 @@
 -- By the bytes that a symbol lacks, and then by what may come next.
 use native.Mathlib.Omega.{arith}
 use mathlib.Core.Path.{_≡_, sym, ap, _∙_, subst}
-use Rattle.draft.specs.State.{state}
+use Rattle.placing.specs.State.{state}
 use Rattle.scanning.specs.declared.sign.Sign.{Sign}
 use Rattle.scanning.specs.declared.reader.Turn.{Turn}
 use Rattle.scanning.specs.declared.reader.Turn.the-variants as turns

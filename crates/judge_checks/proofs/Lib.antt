@@ -1,0 +1,2 @@
+-- What the checks of a judgement say.
+pub mod Outcomes

@@ -1,0 +1,3 @@
+-- The laws of putting a word.
+pub mod Putting
+pub mod Placing

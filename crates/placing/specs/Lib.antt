@@ -1,0 +1,2 @@
+-- A table that grows, with its index.
+pub mod State

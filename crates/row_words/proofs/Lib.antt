@@ -1,0 +1,4 @@
+-- The laws of one word of a row.
+pub mod Bits
+pub mod Sweep
+pub mod Words

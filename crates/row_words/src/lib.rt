@@ -1,0 +1,3 @@
+// Rows a word at a time: 64 positions in one number.
+pub mod connective;
+pub mod word;
