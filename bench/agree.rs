@@ -80,10 +80,12 @@ fn judges(seen: &mut Seen, numbers: &mut Numbers) {
     let samples: Vec<u32> = recording(count).into_iter().map(|sample| sample ^ numbers.next(4) as u32).collect();
     let start = numbers.next(count + 1);
     let room = table.len() * ((count + 63) / 64);
+    let driven = [0, 1, 2, 3, 31, 32, 32, 32, 33][numbers.next(9)];
+    let recording = library::Recording { samples: &samples, start, driven };
     for room in [room / 2, room, room + 3] {
         let (mut one, mut other) = (vec![7; room], vec![7; room]);
-        let theirs = moments::judge(&table, &samples, start, &mut other);
-        same(seen, library::judge(&table, &samples, start, &mut one), theirs);
+        let theirs = moments::judge(&table, recording, &mut other);
+        same(seen, library::judge(&table, recording, &mut one), theirs);
         assert!(one == other, "both sides leave the scratch alike");
     }
 }

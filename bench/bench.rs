@@ -10,6 +10,7 @@ mod stack;
 mod timing;
 mod typed;
 
+use library::Recording;
 use rules::Rule;
 use shapes::{mixed, noise, over_letters, recording, PLAIN, WRITTEN};
 use std::hint::black_box;
@@ -168,21 +169,22 @@ fn judges() {
 
 // Beside writing and copying to the same memory, and beside the judge that goes moment by moment.
 fn judge(name: &str, table: &[u32], samples: &[u32], start: usize) {
+    let recording = Recording { samples, start, driven: 32 };
     let mut scratch = vec![7u64; 16383 * 64];
     let mut expected = scratch.clone();
-    let reply = moments::judge(table, samples, start, &mut expected);
-    assert_eq!(library::judge(table, samples, start, &mut scratch), reply);
+    let reply = moments::judge(table, recording, &mut expected);
+    assert_eq!(library::judge(table, recording, &mut scratch), reply);
     assert!(scratch == expected, "the rows are the same");
     let fast = in_turn(
         100,
         &mut scratch,
         [
-            &mut |s| assert_eq!(library::judge(black_box(table), samples, start, s), reply),
+            &mut |s| assert_eq!(library::judge(black_box(table), recording, s), reply),
             &mut |s| black_box(&mut s[..]).fill(black_box(7)),
             &mut |s| black_box(&mut s[..]).copy_from_slice(black_box(&expected)),
         ],
     );
-    let slow = in_turn(4, &mut scratch, [&mut |s| assert_eq!(moments::judge(black_box(table), samples, start, s), reply)]);
+    let slow = in_turn(4, &mut scratch, [&mut |s| assert_eq!(moments::judge(black_box(table), recording, s), reply)]);
     let time = least_ms(&fast, 0);
     println!(
         "judge, 16383 words x 4096 samples, {name}, loop start {start}: {time:.2} ms, {:.2} ns a row word",
@@ -223,7 +225,8 @@ fn rows() {
             let samples = noise(n);
             let words = (n + 63) / 64;
             let mut scratch = vec![0u64; 1000 * words];
-            let t = least(|| library::judge(black_box(&table), &samples, n / 3, &mut scratch));
+            let recording = Recording { samples: &samples, start: n / 3, driven: 4 };
+            let t = least(|| library::judge(black_box(&table), recording, &mut scratch));
             print!(" {:.1} at {n} samples;", t / (1000 * words) as f64);
         }
         println!();
@@ -239,7 +242,8 @@ fn stacks() {
     for n in [1, 16383] {
         let table = mixed(n, &PLAIN);
         println!("class, {n} words: {}", stack::bytes(|| library::classify(&table, &mut vec![0; n]).unwrap()));
-        let judge = || library::judge(&table, &recording(4096), 0, &mut vec![0; n * 64]).unwrap();
+        let samples = recording(4096);
+        let judge = || library::judge(&table, Recording { samples: &samples, start: 0, driven: 32 }, &mut vec![0; n * 64]).unwrap();
         println!("judge, {n} words x 4096 samples: {}", stack::bytes(judge));
     }
     for n in [1, 64] {

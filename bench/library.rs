@@ -6,8 +6,8 @@ extern "C" {
     fn showrule_classify(table: *const u32, words: usize, bytes: *mut u8, len: usize, place: *mut usize) -> u32;
     fn showrule_plain(table: *const u32, words: usize, result: *mut u32, room: usize, form: *mut usize, place: *mut usize) -> u32;
     fn showrule_judge(
-        table: *const u32, words: usize, samples: *const u32, count: usize, start: usize, scratch: *mut u64, len: usize,
-        judged: *mut u32, held: *mut u32, holds: *mut bool, moments: *mut usize, failing: *mut usize, place: *mut usize,
+        table: *const u32, words: usize, samples: *const u32, count: usize, start: usize, driven: usize, scratch: *mut u64,
+        len: usize, judged: *mut u32, held: *mut u32, holds: *mut bool, moments: *mut usize, failing: *mut usize, place: *mut usize,
     ) -> u32;
 }
 
@@ -92,15 +92,24 @@ pub fn text(_: &[u8], _: &mut [u32]) -> Result<usize, Refused> {
     unreachable!("the library has no C name for reading texts")
 }
 
+// Samples, the loop start, and how many letters are driven.
+#[derive(Clone, Copy)]
+pub struct Recording<'a> {
+    pub samples: &'a [u32],
+    pub start: usize,
+    pub driven: usize,
+}
+
 // Whether the rule holds at moment 0, at how many moments, and the first failing moment. The tally goes in as zeros.
 pub type Answer = (bool, usize, usize);
 
-pub fn judge(table: &[u32], samples: &[u32], start: usize, scratch: &mut [u64]) -> Result<Answer, Refused> {
+pub fn judge(table: &[u32], recording: Recording, scratch: &mut [u64]) -> Result<Answer, Refused> {
+    let Recording { samples, start, driven } = recording;
     let (mut judged, mut held, mut holds, mut moments, mut failing, mut place) = (0, 0, false, 0, 0, 0);
     let number = unsafe {
         showrule_judge(
-            table.as_ptr(), table.len(), samples.as_ptr(), samples.len(), start, scratch.as_mut_ptr(), scratch.len(),
-            &mut judged, &mut held, &mut holds, &mut moments, &mut failing, &mut place,
+            table.as_ptr(), table.len(), samples.as_ptr(), samples.len(), start, driven, scratch.as_mut_ptr(),
+            scratch.len(), &mut judged, &mut held, &mut holds, &mut moments, &mut failing, &mut place,
         )
     };
     reply(number, place, (holds, moments, failing))

@@ -1,14 +1,22 @@
-// The judge of document 01 written for clarity, one moment after the other: what the proved one is compared with, and timed beside.
+// The judge of documents 01 and 02 written for clarity, one moment after the other: what the proved one is compared with, and timed beside.
 use crate::hashmap::{check, Refused};
-use crate::library::Answer;
+use crate::library::{Answer, Recording};
 
-pub fn judge(table: &[u32], samples: &[u32], start: usize, scratch: &mut [u64]) -> Result<Answer, Refused> {
+pub fn judge(table: &[u32], recording: Recording, scratch: &mut [u64]) -> Result<Answer, Refused> {
+    let Recording { samples, start, driven } = recording;
     check(table, false, 16383)?;
     match samples.len() {
         0 => return Err((13, 0)),
         4097.. => return Err((14, 0)),
         count if count <= start => return Err((15, 0)),
         _ => {}
+    }
+    if driven > 32 {
+        return Err((22, 0));
+    }
+    let undriven = |w: &u32| matches!(w >> 28, 3 | 4) && (w & 0x3FFF) as usize > driven;
+    if let Some(j) = table.iter().position(undriven) {
+        return Err((21, j + 1));
     }
     let words = (samples.len() + 63) / 64;
     if scratch.len() < table.len() * words {

@@ -2,8 +2,8 @@
  *
  * A rule is a table of 32-bit words numbered from 1; document 01 says what they mean. Every function takes any numbers and any words,
  * and answers 0 when the call is accepted, or the number of the refusal, the first of document 01's check table that applies. The
- * place is then the number of the faulty word for 3 to 11, that of a byte of the text for 19, and 0 otherwise; accepted, it is 0. No
- * function allocates, keeps a pointer, reads or writes a file, or ends the program. They may run on several threads at once, on memory
+ * place is then the number of the faulty word for 3 to 11 and 21, that of a byte of the text for 19, and 0 otherwise; accepted, it is
+ * 0. No function allocates, keeps a pointer, reads or writes a file, or ends the program. They may run on several threads at once, on memory
  * that no other call writes.
  *
  * What a caller keeps to; nothing checks it:
@@ -48,7 +48,9 @@ enum {
     SHOWRULE_SCRATCH_TOO_SHORT = 16,   /* the scratch is shorter than the rows */
     SHOWRULE_TALLY_FULL = 17,          /* judged is 4,294,967,295, or held exceeds judged */
     SHOWRULE_NOT_GRAMMAR = 19,         /* the text departs from the grammar; the place is the byte at which it does */
-    SHOWRULE_TEXT_TOO_LONG = 20        /* the text has over 1,024 bytes */
+    SHOWRULE_TEXT_TOO_LONG = 20,       /* the text has over 1,024 bytes */
+    SHOWRULE_LETTER_NOT_DRIVEN = 21,   /* a word names a letter that the recording does not drive; the place is the lowest such word */
+    SHOWRULE_TOO_MANY_DRIVEN = 22      /* the recording says that it drives over 32 letters */
 };
 
 /* The most of each that a call takes. */
@@ -58,7 +60,8 @@ enum {
     SHOWRULE_MOST_WRITTEN = 64,       /* words of a written table, for plain and form; text makes no longer one */
     SHOWRULE_MOST_PLAIN = 130,        /* words of a plain table, for normal; no plain form is longer */
     SHOWRULE_MOST_UNTIL_LIKE = 8,     /* until-like words of a plain table, for normal and form */
-    SHOWRULE_MOST_SAMPLES = 4096      /* samples of a recording */
+    SHOWRULE_MOST_SAMPLES = 4096,     /* samples of a recording */
+    SHOWRULE_MOST_DRIVEN = 32         /* letters that a recording drives */
 };
 
 /* The 64-bit words of scratch that so many words and samples need. */
@@ -104,18 +107,21 @@ uint32_t showrule_form(const uint32_t *table, size_t words, uint32_t *plain, siz
                        size_t *form_words, size_t *place);
 
 /* Judges a rule, a table of at most 16,383 words, written or plain, over a recording of `count` samples: after the last comes the one at
- * the loop start again, for ever. Checks 1 to 10 and 13 to 17. Accepted, *holds says whether the rule holds at moment 0, *moments at how
- * many of the recorded moments, *failing is the first of them at which it fails (count if none); *judged is one more, and so is *held if
- * it held at moment 0. The scratch then starts with a row for each word, in their order, each of (count + 63) / 64 words of 64 bits:
- * moment i is bit i % 64 of the row's word i / 64, unused high bits are 0; later words stay. Refused, *holds is false, *moments and
- * *failing are 0, and *judged, *held and the scratch are as they were. */
-uint32_t showrule_judge(const uint32_t *table, size_t words, const uint32_t *samples, size_t count, size_t start, uint64_t *scratch,
-                        size_t room, uint32_t *judged, uint32_t *held, bool *holds, size_t *moments, size_t *failing, size_t *place);
+ * the loop start again, for ever. The recording drives the letters 1 to `driven`, 0 to 32 of them: a rule that names a higher one is
+ * refused by 21, and the bits of the samples above the driven ones are never looked at. Checks 1 to 10, 13 to 15, 22, 21, 16 and 17, in
+ * this order. Accepted, *holds says whether the rule holds at moment 0, *moments at how many of the recorded moments, *failing is the
+ * first of them at which it fails (count if none); *judged is one more, and so is *held if it held at moment 0. The scratch then starts
+ * with a row for each word, in their order, each of (count + 63) / 64 words of 64 bits: moment i is bit i % 64 of the row's word i / 64,
+ * unused high bits are 0; later words stay. Refused, *holds is false, *moments and *failing are 0, and *judged, *held and the scratch
+ * are as they were. */
+uint32_t showrule_judge(const uint32_t *table, size_t words, const uint32_t *samples, size_t count, size_t start, size_t driven,
+                        uint64_t *scratch, size_t room, uint32_t *judged, uint32_t *held, bool *holds, size_t *moments, size_t *failing,
+                        size_t *place);
 
 /* The row call: the rows of showrule_judge, with no tally and so without check 17. Accepted, the rule's own row is the part of the scratch
  * of *row_words words from scratch[*from] on. Refused, both are 0, and the scratch is as it was. */
-uint32_t showrule_row(const uint32_t *table, size_t words, const uint32_t *samples, size_t count, size_t start, uint64_t *scratch,
-                      size_t room, size_t *from, size_t *row_words, size_t *place);
+uint32_t showrule_row(const uint32_t *table, size_t words, const uint32_t *samples, size_t count, size_t start, size_t driven,
+                      uint64_t *scratch, size_t room, size_t *from, size_t *row_words, size_t *place);
 
 #ifdef __cplusplus
 }

@@ -36,6 +36,6 @@ row-refused {table = table} {samples = samples} e told at =
       is-place = at ∙ ap outcomePlace back;
     }
 
-pub scratch-told : {o p : Outcome} {after : List ℕ} (table samples : List ℕ) (start : ℕ) (scratch : List ℕ) → o ≡ p
-    → after ≡ scratchAfter o table samples start scratch → after ≡ scratchAfter p table samples start scratch
-scratch-told table samples start scratch e k = k ∙ ap (λ (o : Outcome). scratchAfter o table samples start scratch) e
+pub scratch-told : {o p : Outcome} {after : List ℕ} (table samples : List ℕ) (start driven : ℕ) (scratch : List ℕ) → o ≡ p
+    → after ≡ scratchAfter o table samples start driven scratch → after ≡ scratchAfter p table samples start driven scratch
+scratch-told table samples start driven scratch e k = k ∙ ap (λ (o : Outcome). scratchAfter o table samples start driven scratch) e

@@ -161,13 +161,14 @@ fn judge_reply(
     }
 }
 
-// Whether the rule holds at the first position, at how many, and the first that fails; the tally goes in and comes back in the
-// two lent numbers.
+// Whether the rule holds at the first position, at how many, and the first that fails, over a recording that drives the letters 1 to
+// `driven`; the tally goes in and comes back in the two lent numbers.
 #[no_mangle]
 pub extern "C" fn showrule_judge(
     table: &[u32],
     samples: &[u32],
     start: usize,
+    driven: usize,
     scratch: &mut [u64],
     judged: &mut u32,
     held: &mut u32,
@@ -177,17 +178,17 @@ pub extern "C" fn showrule_judge(
     place: &mut usize,
 ) -> u32
     ensures { λ r. ⌜ JudgeReply
-        (judgeReply (now (table .entry)) (now (samples .entry)) start (now (scratch .entry)) (record { judged = now (judged .entry); held = now (held .entry) }))
+        (judgeReply (now (table .entry)) (now (samples .entry)) start driven (now (scratch .entry)) (record { judged = now (judged .entry); held = now (held .entry) }))
         r (now (judged .exit)) (now (held .exit)) (now (holds .exit)) (now (moments .exit)) (now (failing .exit)) (now (place .exit)) ⌝ }
     ensures { λ r. ⌜ now (scratch .exit) ≡ scratchAfter
-        (judgeOutcome (now (table .entry)) (now (samples .entry)) start (now (scratch .entry)) (record { judged = now (judged .entry); held = now (held .entry) }))
-        (now (table .entry)) (now (samples .entry)) start (now (scratch .entry)) ⌝ }
+        (judgeOutcome (now (table .entry)) (now (samples .entry)) start driven (now (scratch .entry)) (record { judged = now (judged .entry); held = now (held .entry) }))
+        (now (table .entry)) (now (samples .entry)) start driven (now (scratch .entry)) ⌝ }
 {
     let tally = Tally {
         judged: *judged,
         held: *held,
     };
-    let j = evaluation::judge(table, samples, start, scratch, tally);
+    let j = evaluation::judge(table, samples, start, driven, scratch, tally);
     let after = j.tally;
     *judged = after.judged;
     *held = after.held;
@@ -208,19 +209,20 @@ pub extern "C" fn showrule_row(
     table: &[u32],
     samples: &[u32],
     start: usize,
+    driven: usize,
     scratch: &mut [u64],
     from: &mut usize,
     words: &mut usize,
     place: &mut usize,
 ) -> u32
     ensures { λ r. ⌜ RowReply
-        (rowOutcome (now (table .entry)) (now (samples .entry)) start (now (scratch .entry))) (length (now (table .entry))) (length (now (samples .entry)))
+        (rowOutcome (now (table .entry)) (now (samples .entry)) start driven (now (scratch .entry))) (length (now (table .entry))) (length (now (samples .entry)))
         r (now (from .exit)) (now (words .exit)) (now (place .exit)) ⌝ }
     ensures { λ r. ⌜ now (scratch .exit) ≡ scratchAfter
-        (rowOutcome (now (table .entry)) (now (samples .entry)) start (now (scratch .entry)))
-        (now (table .entry)) (now (samples .entry)) start (now (scratch .entry)) ⌝ }
+        (rowOutcome (now (table .entry)) (now (samples .entry)) start driven (now (scratch .entry)))
+        (now (table .entry)) (now (samples .entry)) start driven (now (scratch .entry)) ⌝ }
 {
-    match evaluation::fill(table, samples, start, scratch) {
+    match evaluation::fill(table, samples, start, driven, scratch) {
         Outcome::Refused(why) => {
             *from = 0;
             *words = 0;

@@ -2,8 +2,9 @@
 
 // A case in words, in this order: the step (1 check, 2 class, 3 plain form, 4 normal form, 5 whole way, 6 judge, 7 row call, 8 text); how
 // many words of a chain the table starts with, and how many are listed after it; the number of a word that is replaced (0: none), and the word;
-// the rooms of the lent slices; whether plain tables only, and the limit, of the check; the number of samples, the loop start, the tally, and
-// the seed of the samples (0: they are listed). The listed words follow, of a text a byte a word, then the listed samples.
+// the rooms of the lent slices; whether plain tables only, and the limit, of the check; the number of samples, the loop start, the driven
+// count, the tally, and the seed of the samples (0: they are listed). The listed words follow, of a text a byte a word, then the listed
+// samples.
 pub struct Case {
     pub step: u32,
     pub chain: usize,
@@ -16,12 +17,13 @@ pub struct Case {
     pub limit: usize,
     pub samples: usize,
     pub start: usize,
+    pub driven: usize,
     pub judged: u32,
     pub held: u32,
     pub seed: u64,
 }
 
-pub fn case_of(w: [u32; 14]) -> Case {
+pub fn case_of(w: [u32; 15]) -> Case {
     Case {
         step: w[0],
         chain: w[1] as usize,
@@ -34,9 +36,10 @@ pub fn case_of(w: [u32; 14]) -> Case {
         limit: w[8] as usize,
         samples: w[9] as usize,
         start: w[10] as usize,
-        judged: w[11],
-        held: w[12],
-        seed: w[13] as u64,
+        driven: w[11] as usize,
+        judged: w[12],
+        held: w[13],
+        seed: w[14] as u64,
     }
 }
 

@@ -109,6 +109,7 @@ fn judge(c: Case, table: &[u32], samples: &[u32]) {
             table,
             samples,
             c.start,
+            c.driven,
             &mut scratch[0..room],
             &mut judged,
             &mut held,
@@ -146,6 +147,7 @@ fn row(c: Case, table: &[u32], samples: &[u32]) {
             table,
             samples,
             c.start,
+            c.driven,
             &mut scratch[0..room],
             &mut from,
             &mut words,
@@ -226,7 +228,7 @@ fn tabled(c: Case) -> bool {
 
 // The next case; whether there was one.
 pub fn one() -> bool {
-    let mut head = [0u32; 14];
+    let mut head = [0u32; 15];
     let there = input::words(&mut head);
     there && tabled(input::case_of(head))
 }

@@ -19,43 +19,45 @@ use Rattle.table.specs.Table.{formulaOf, formulas, rule}
 use Rattle.row_words.specs.Row.{rowWords}
 use Rattle.judge_checks.specs.Checks.{tallyChecks}
 use Rattle.table.proofs.First.{first-passed}
+use Rattle.table.proofs.Accepted.{accepted-well-formed}
 use Rattle.table.proofs.Formulas.{length-formulas}
 use Rattle.judge_checks.specs.declared.tally.Tally.{Tally}
 use Rattle.evaluation.specs.declared.answer.Judgement.{Judgement}
 use Rattle.evaluation.specs.declared.answer.Judgement.the-variants.{Judged as JudgedAs, Refused as NotJudged}
 use Rattle.evaluation.specs.declared.answer.Judged.{Judged}
 use Rattle.judge_checks.specs.Tallies.{isFull, counted, tallyAfter}
-use Rattle.evaluation.specs.Judging.{lassoOf, rowOf, rowsThen, judgement, replyBy, rowOutcome, judgeOutcome, reply, scratchAfter, lastRow, partAt}
-use Rattle.judge_checks.proofs.Outcomes.{Judgeable, judgeable, judge-both}
+use Rattle.evaluation.specs.Judging.{Fillable, lassoOf, rowOf, rowsThen, judgement, replyBy, rowOutcome, judgeOutcome, reply, scratchAfter, lastRow, partAt}
+use Rattle.judge_checks.proofs.Outcomes.{judgeable, judge-both}
 use Rattle.evaluation.proofs.Scratch.{width, row-part}
-use Rattle.evaluation.proofs.WordRow.{Inside, lasso-inside, accepted-facts, part-small, part-end, part-for}
+use Rattle.evaluation.proofs.WordRow.{Inside, lasso-inside, part-small, part-end, part-for}
 
 -- what the judge accepts the row call accepts
-pub judge-rows : (t samples : List ℕ) (start : ℕ) (s : List ℕ) (tally : Tally)
-    → judgeOutcome t samples start s tally ≡ Accepted → rowOutcome t samples start s ≡ Accepted
+pub judge-rows : (t samples : List ℕ) (start driven : ℕ) (s : List ℕ) (tally : Tally)
+    → judgeOutcome t samples start driven s tally ≡ Accepted → rowOutcome t samples start driven s ≡ Accepted
 unfolding judgeOutcome rowOutcome
-judge-rows t samples start s tally e = judge-both t (length samples) start (length s) tally e .0
+judge-rows t samples start driven s tally e = judge-both t (length samples) start driven (length s) tally e .0
+
+pub judge-few : (t samples : List ℕ) (start driven : ℕ) (s : List ℕ) (tally : Tally) → judgeOutcome t samples start driven s tally ≡ Accepted → driven ≤ 32
+unfolding judgeOutcome
+judge-few t samples start driven s tally e = judgeable t (length samples) start driven (length s) (judge-both t (length samples) start driven (length s) tally e .0) .few-driven
 
 -- the part of the last row among the rows
 module _ (t samples : List ℕ) (start : ℕ) (s : List ℕ) (words : ℕ)
-    (accepted : rowOutcome t samples start s ≡ Accepted) (wide : words ≡ rowWords (length samples)) where
-  facts : Judgeable t (length samples) start (length s)
-  facts = accepted-facts t samples start s accepted
-
+    (facts : Fillable t samples start s) (wide : words ≡ rowWords (length samples)) where
   pub some-word : 1 ≤ length t
-  some-word = facts .table .some
+  some-word = accepted-well-formed false 16383 t (facts .accepted) .some
 
   last : length t - 1 < length t
   last = omega (arith, some-word)
 
   pub last-small : (length t - 1) * words + words ≤ 1048576
-  last-small = part-small t samples start (length t - 1) s words last accepted wide
+  last-small = part-small t samples start (length t - 1) s words last facts wide
 
   pub last-end : (length t - 1) * words + words ≤ length s
-  last-end = part-end t samples start (length t - 1) s words last accepted wide
+  last-end = part-end t samples start (length t - 1) s words last facts wide
 
   pub last-for : RowFor (length samples) (take ((length t - 1) * words + words - (length t - 1) * words) (drop ((length t - 1) * words) s))
-  last-for = part-for t samples start (length t - 1) s words last accepted wide
+  last-for = part-for t samples start (length t - 1) s words last facts wide
 
   last-formula : rule t ≡ getD (formulas t) (length t - 1) (const false)
   unfolding rule formulaOf
@@ -64,14 +66,14 @@ module _ (t samples : List ℕ) (start : ℕ) (s : List ℕ) (words : ℕ)
       same : length t ≡ suc (length t - 1)
       same = omega (arith, some-word)
 
-  pub last-row : (u : List ℕ) → s ≡ rowsThen (lassoOf samples start) (formulas t) u
-      → take ((length t - 1) * words + words - (length t - 1) * words) (drop ((length t - 1) * words) s) ≡ rowOf (lassoOf samples start) (rule t)
+  pub last-row : (driven : ℕ) → driven ≤ 32 → (u : List ℕ) → s ≡ rowsThen (lassoOf samples start driven) (formulas t) u
+      → take ((length t - 1) * words + words - (length t - 1) * words) (drop ((length t - 1) * words) s) ≡ rowOf (lassoOf samples start driven) (rule t)
   unfolding rowsThen
-  last-row u e =
-      let r : Lasso = lassoOf samples start in
+  last-row driven few u e =
+      let r : Lasso = lassoOf samples start driven in
       let n : ℕ = length t - 1 in
-      let i : Inside samples start = lasso-inside samples start (facts .inside) in
-      let wider : words ≡ width r = wide ∙ ap (λ (x : Lasso). width x) (sym (i .1)) in
+      let i : Inside samples start driven = lasso-inside samples start driven (facts .inside) few in
+      let wider : words ≡ width r = wide ∙ ap (λ (x : Lasso). width x) (sym (i .2)) in
       let rest : n * words + words - n * words ≡ words = omega arith in
       ap (λ (k : ℕ). take k (drop (n * words) s)) rest
       ∙ ap₂ (λ (k : ℕ) (x : List ℕ). take k (drop (n * k) x)) wider e
@@ -89,49 +91,50 @@ pub judged-is : (f : Sequence) (L : ℕ) (holds : Bool) (moments failing : ℕ) 
 judged-is f L holds moments failing a b c = cc
 
 -- what is read off the rule's row is the reply
-pub accepted-reply : (t samples : List ℕ) (start : ℕ) (s part : List ℕ) (tally : Tally) (j : Judged)
-    → judgeOutcome t samples start s tally ≡ Accepted
-    → part ≡ rowOf (lassoOf samples start) (rule t)
+pub accepted-reply : (t samples : List ℕ) (start driven : ℕ) (s part : List ℕ) (tally : Tally) (j : Judged)
+    → judgeOutcome t samples start driven s tally ≡ Accepted
+    → part ≡ rowOf (lassoOf samples start driven) (rule t)
     → ((f : Sequence) → part ≡ row (length samples) f → (j .answer ≡ judgement f (length samples)) × (j .tally ≡ tallyAfter tally (f 0)))
-    → j ≡ reply t samples start s tally
+    → j ≡ reply t samples start driven s tally
 unfolding judgeOutcome reply replyBy rowOf
-accepted-reply t samples start s part tally j e p read =
-    let checks = judge-both t (length samples) start (length s) tally e in
-    let i : Inside samples start = lasso-inside samples start (judgeable t (length samples) start (length s) (checks .0) .inside) in
-    let r : Lasso = record { samples = samples; start = start; inside = i .0 } in
+accepted-reply t samples start driven s part tally j e p read =
+    let checks = judge-both t (length samples) start driven (length s) tally e in
+    let facts = judgeable t (length samples) start driven (length s) (checks .0) in
+    let i : Inside samples start driven = lasso-inside samples start driven (facts .inside) (facts .few-driven) in
+    let r : Lasso = record { samples = samples; start = start; driven = driven; inside = i .0; few = i .1 } in
     let f : Sequence = truth r (rule t) in
-    let known = read f (subst (λ (x : Lasso). part ≡ rowOf x (rule t)) (i .1) p) in
+    let known = read f (subst (λ (x : Lasso). part ≡ rowOf x (rule t)) (i .2) p) in
     let built : j ≡ replyBy Accepted r (rule t) tally = as-judged (known .0) (known .1 ∙ tally-counted tally (f 0) (checks .1)) in
-    built ∙ ap₂ (λ (o : Outcome) (x : Lasso). replyBy o x (rule t) tally) (sym e) (sym (i .1))
+    built ∙ ap₂ (λ (o : Outcome) (x : Lasso). replyBy o x (rule t) tally) (sym e) (sym (i .2))
   where
     as-judged : {a : Judgement} {c : Tally} → j .answer ≡ a → j .tally ≡ c → j ≡ record { answer = a; tally = c }
     as-judged d h = ap₂ (λ (a : Judgement) (c : Tally). record { answer = a; tally = c }) d h
 
-pub refused-reply : (t samples : List ℕ) (start : ℕ) (s : List ℕ) (tally : Tally) (why : Refusal)
-    → judgeOutcome t samples start s tally ≡ Refused why → record { answer = NotJudged why; tally = tally } ≡ reply t samples start s tally
+pub refused-reply : (t samples : List ℕ) (start driven : ℕ) (s : List ℕ) (tally : Tally) (why : Refusal)
+    → judgeOutcome t samples start driven s tally ≡ Refused why → record { answer = NotJudged why; tally = tally } ≡ reply t samples start driven s tally
 unfolding reply replyBy
-refused-reply t samples start s tally why e = ap (λ (o : Outcome). replyBy o (lassoOf samples start) (rule t) tally) (sym e)
+refused-reply t samples start driven s tally why e = ap (λ (o : Outcome). replyBy o (lassoOf samples start driven) (rule t) tally) (sym e)
 
 -- ---- the scratch and the part, by what the checks say
 
-pub accepted-scratch : {o : Outcome} (t samples : List ℕ) (start : ℕ) (s : List ℕ) → o ≡ Accepted
-    → rowsThen (lassoOf samples start) (formulas t) s ≡ scratchAfter o t samples start s
+pub accepted-scratch : {o : Outcome} (t samples : List ℕ) (start driven : ℕ) (s : List ℕ) → o ≡ Accepted
+    → rowsThen (lassoOf samples start driven) (formulas t) s ≡ scratchAfter o t samples start driven s
 unfolding scratchAfter
-accepted-scratch t samples start s e = ap (λ (o : Outcome). scratchAfter o t samples start s) (sym e)
+accepted-scratch t samples start driven s e = ap (λ (o : Outcome). scratchAfter o t samples start driven s) (sym e)
 
-pub refused-scratch : {o : Outcome} {why : Refusal} (t samples : List ℕ) (start : ℕ) (s : List ℕ) → o ≡ Refused why
-    → s ≡ scratchAfter o t samples start s
+pub refused-scratch : {o : Outcome} {why : Refusal} (t samples : List ℕ) (start driven : ℕ) (s : List ℕ) → o ≡ Refused why
+    → s ≡ scratchAfter o t samples start driven s
 unfolding scratchAfter
-refused-scratch t samples start s e = ap (λ (o : Outcome). scratchAfter o t samples start s) (sym e)
+refused-scratch t samples start driven s e = ap (λ (o : Outcome). scratchAfter o t samples start driven s) (sym e)
 
-pub accepted-part : {o : Outcome} (t samples : List ℕ) (start : ℕ) → o ≡ Accepted
-    → rowOf (lassoOf samples start) (rule t) ≡ lastRow o t samples start
+pub accepted-part : {o : Outcome} (t samples : List ℕ) (start driven : ℕ) → o ≡ Accepted
+    → rowOf (lassoOf samples start driven) (rule t) ≡ lastRow o t samples start driven
 unfolding lastRow
-accepted-part t samples start e = ap (λ (o : Outcome). lastRow o t samples start) (sym e)
+accepted-part t samples start driven e = ap (λ (o : Outcome). lastRow o t samples start driven) (sym e)
 
-pub refused-part : {o : Outcome} {why : Refusal} (t samples : List ℕ) (start : ℕ) → o ≡ Refused why → [] ≡ lastRow o t samples start
+pub refused-part : {o : Outcome} {why : Refusal} (t samples : List ℕ) (start driven : ℕ) → o ≡ Refused why → [] ≡ lastRow o t samples start driven
 unfolding lastRow
-refused-part t samples start e = ap (λ (o : Outcome). lastRow o t samples start) (sym e)
+refused-part t samples start driven e = ap (λ (o : Outcome). lastRow o t samples start driven) (sym e)
 
 pub accepted-at : {o : Outcome} (t samples : List ℕ) (p : ℕ × ℕ) {words : ℕ} → o ≡ Accepted → words ≡ rowWords (length samples)
     → _≡_ {A = ℕ × ℕ} (p .0, (length t - 1) * words * 8 + p .1) (partAt o t samples p)

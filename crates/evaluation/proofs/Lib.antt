@@ -4,3 +4,4 @@ pub mod Looped
 pub mod WordRow
 pub mod LastRow
 pub mod Promise
+pub mod Alike

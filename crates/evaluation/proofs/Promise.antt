@@ -14,6 +14,7 @@ use lib.Dec.{T}
 use Rattle.logic.specs.Formula.{Formula, const}
 use Rattle.logic.specs.Lasso.{Lasso, place, word}
 use Rattle.logic.specs.Semantics.{Predicate, Holds}
+use Rattle.logic.specs.Driven.{Drives}
 use Rattle.logic.specs.Truth.{Sequence, truth}
 use Rattle.logic.proofs.Lasso.Period.{place-lt, truth-place}
 use Rattle.logic.proofs.Lasso.Truth.{truth-holds}
@@ -23,11 +24,14 @@ use Rattle.rows.proofs.Rows.{row-length, row-word, word-bit}
 use Rattle.table.specs.declared.refusal.Outcome.{Outcome}
 use Rattle.table.specs.declared.refusal.Outcome.the-variants.{Accepted, Refused}
 use Rattle.table.specs.Refusals.{outcomeNumber, outcomePlace}
-use Rattle.table.specs.Table.{formulas, rule}
+use Rattle.table.specs.Table.{formulaOf, formulas, rule}
 use Rattle.table.proofs.Formulas.{length-formulas}
+use Rattle.table.proofs.Accepted.{accepted-well-formed}
+use Rattle.table.proofs.Letters.{formulas-driven}
 use Rattle.judge_checks.specs.declared.tally.Tally.{Tally}
 use Rattle.evaluation.specs.Judging.{lassoOf, rowOf, rowNumber, holdsIn, rowsThen, rowOutcome, judgeOutcome, replyBy, reply, scratchAfter, lastRow}
 use Rattle.evaluation.specs.Answers.{said, Count, none, one-more, no-more, FirstFailing, Judges}
+use Rattle.judge_checks.proofs.Outcomes.{Judgeable}
 use Rattle.evaluation.proofs.Scratch.{width, row-part}
 use Rattle.evaluation.proofs.WordRow.{Inside, lasso-inside, accepted-facts}
 use Rattle.evaluation.proofs.LastRow.{judge-rows, accepted-scratch}
@@ -59,31 +63,47 @@ unfolding rowOf
 place-bit r φ i =
     row-bit (length (r .samples)) (truth r φ) _ (place-lt (length (r .samples)) (r .start) i (r .inside)) ∙ sym (truth-place r φ i)
 
-module _ (t samples : List ℕ) (start : ℕ) (scratch : List ℕ) (accepted : rowOutcome t samples start scratch ≡ Accepted) where
-  inside : Inside samples start
-  inside = lasso-inside samples start (accepted-facts t samples start scratch accepted .inside)
+module _ (t samples : List ℕ) (start driven : ℕ) (scratch : List ℕ) (accepted : rowOutcome t samples start driven scratch ≡ Accepted) where
+  facts : Judgeable t (length samples) start driven (length scratch)
+  facts = accepted-facts t samples start driven scratch accepted
+
+  inside : Inside samples start driven
+  inside = lasso-inside samples start driven (facts .inside) (facts .few-driven)
 
   -- the lasso of an accepted call reads as document 01 says of its samples
-  pub accepted-word : (i : ℕ) → word (lassoOf samples start) i ≡ getD samples (place (length samples) start i) 0
+  pub accepted-word : (i : ℕ) → word (lassoOf samples start driven) i ≡ getD samples (place (length samples) start i) 0
   unfolding word
-  accepted-word i = ap (λ (r : Lasso). word r i) (inside .1)
+  accepted-word i = ap (λ (r : Lasso). word r i) (inside .2)
+
+  -- it drives every letter of every word's formula
+  pub accepted-drives : (j : ℕ) → j < length t → Drives (lassoOf samples start driven) (getD (formulas t) j (const false))
+  unfolding formulaOf
+  accepted-drives j h =
+      subst (λ (r : Lasso). Drives r (getD (formulas t) j (const false))) (sym (inside .2))
+      (formulas-driven (accepted-well-formed false 16383 t (facts .accepted)) driven (facts .letters) (suc j) h)
+
+  pub rule-drives : Drives (lassoOf samples start driven) (rule t)
+  unfolding rule
+  rule-drives =
+      subst (λ (r : Lasso). Drives r (rule t)) (sym (inside .2))
+      (formulas-driven (accepted-well-formed false 16383 t (facts .accepted)) driven (facts .letters) (length t) (omega arith))
 
   -- row j of the scratch afterwards
   pub row-of-word : (j : ℕ) → j < length t
-      → rowNumber (rowWords (length samples)) j (rowsThen (lassoOf samples start) (formulas t) scratch)
-      ≡ rowOf (lassoOf samples start) (getD (formulas t) j (const false))
+      → rowNumber (rowWords (length samples)) j (rowsThen (lassoOf samples start driven) (formulas t) scratch)
+      ≡ rowOf (lassoOf samples start driven) (getD (formulas t) j (const false))
   unfolding rowsThen
   row-of-word j h =
-      ap (λ (r : Lasso). rowNumber (width r) j (rowsThen (lassoOf samples start) (formulas t) scratch)) (sym (inside .1))
-      ∙ row-part (lassoOf samples start) (formulas t) j _ (omega (arith, length-formulas t))
+      ap (λ (r : Lasso). rowNumber (width r) j (rowsThen (lassoOf samples start driven) (formulas t) scratch)) (sym (inside .2))
+      ∙ row-part (lassoOf samples start driven) (formulas t) j _ (omega (arith, length-formulas t))
 
   bit-of-word : (j : ℕ) → j < length t → (i : ℕ)
-      → holdsIn (rowNumber (rowWords (length samples)) j (rowsThen (lassoOf samples start) (formulas t) scratch)) (place (length samples) start i)
-      ≡ truth (lassoOf samples start) (getD (formulas t) j (const false)) i
+      → holdsIn (rowNumber (rowWords (length samples)) j (rowsThen (lassoOf samples start driven) (formulas t) scratch)) (place (length samples) start i)
+      ≡ truth (lassoOf samples start driven) (getD (formulas t) j (const false)) i
   bit-of-word j h i =
       ap (λ (x : List ℕ). holdsIn x (place (length samples) start i)) (row-of-word j h)
-      ∙ ap (λ (r : Lasso). holdsIn (rowOf (lassoOf samples start) φ) (place (length (r .samples)) (r .start) i)) (sym (inside .1))
-      ∙ place-bit (lassoOf samples start) φ i
+      ∙ ap (λ (r : Lasso). holdsIn (rowOf (lassoOf samples start driven) φ) (place (length (r .samples)) (r .start) i)) (sym (inside .2))
+      ∙ place-bit (lassoOf samples start driven) φ i
     where
       φ : Formula
       φ = getD (formulas t) j (const false)
@@ -91,33 +111,33 @@ module _ (t samples : List ℕ) (start : ℕ) (scratch : List ℕ) (accepted : r
   Promise : List ℕ → Type 0
   Promise after = (j : ℕ) → j < length t → (i : ℕ)
       → T (holdsIn (rowNumber (rowWords (length samples)) j after) (place (length samples) start i))
-      ↔ Holds (word (lassoOf samples start)) (getD (formulas t) j (const false)) i
+      ↔ Holds (word (lassoOf samples start driven)) (getD (formulas t) j (const false)) i
 
-  promised : (after : List ℕ) → rowsThen (lassoOf samples start) (formulas t) scratch ≡ after → Promise after
+  promised : (after : List ℕ) → rowsThen (lassoOf samples start driven) (formulas t) scratch ≡ after → Promise after
   unfolding Promise
   promised after e j h i =
       let φ : Formula = getD (formulas t) j (const false) in
-      let same : holdsIn (rowNumber (rowWords (length samples)) j after) (place (length samples) start i) ≡ truth (lassoOf samples start) φ i =
+      let same : holdsIn (rowNumber (rowWords (length samples)) j after) (place (length samples) start i) ≡ truth (lassoOf samples start driven) φ i =
       ap (λ (x : List ℕ). holdsIn (rowNumber (rowWords (length samples)) j x) (place (length samples) start i)) (sym e) ∙ bit-of-word j h i
       in
-      says same (truth-holds (lassoOf samples start) φ i)
+      says same (truth-holds (lassoOf samples start driven) φ i)
 
 -- the row call
-pub row-promise : (t samples : List ℕ) (start : ℕ) (scratch : List ℕ) → rowOutcome t samples start scratch ≡ Accepted
+pub row-promise : (t samples : List ℕ) (start driven : ℕ) (scratch : List ℕ) → rowOutcome t samples start driven scratch ≡ Accepted
     → (j : ℕ) → j < length t → (i : ℕ)
-    → T (holdsIn (rowNumber (rowWords (length samples)) j (scratchAfter (rowOutcome t samples start scratch) t samples start scratch)) (place (length samples) start i))
-    ↔ Holds (word (lassoOf samples start)) (getD (formulas t) j (const false)) i
+    → T (holdsIn (rowNumber (rowWords (length samples)) j (scratchAfter (rowOutcome t samples start driven scratch) t samples start driven scratch)) (place (length samples) start i))
+    ↔ Holds (word (lassoOf samples start driven)) (getD (formulas t) j (const false)) i
 unfolding Promise
-row-promise t samples start scratch e = promised t samples start scratch e _ (accepted-scratch t samples start scratch e)
+row-promise t samples start driven scratch e = promised t samples start driven scratch e _ (accepted-scratch t samples start driven scratch e)
 
 -- the judge
-pub judge-promise : (t samples : List ℕ) (start : ℕ) (scratch : List ℕ) (tally : Tally) → judgeOutcome t samples start scratch tally ≡ Accepted
+pub judge-promise : (t samples : List ℕ) (start driven : ℕ) (scratch : List ℕ) (tally : Tally) → judgeOutcome t samples start driven scratch tally ≡ Accepted
     → (j : ℕ) → j < length t → (i : ℕ)
-    → T (holdsIn (rowNumber (rowWords (length samples)) j (scratchAfter (judgeOutcome t samples start scratch tally) t samples start scratch)) (place (length samples) start i))
-    ↔ Holds (word (lassoOf samples start)) (getD (formulas t) j (const false)) i
+    → T (holdsIn (rowNumber (rowWords (length samples)) j (scratchAfter (judgeOutcome t samples start driven scratch tally) t samples start driven scratch)) (place (length samples) start i))
+    ↔ Holds (word (lassoOf samples start driven)) (getD (formulas t) j (const false)) i
 unfolding Promise
-judge-promise t samples start scratch tally e =
-    promised t samples start scratch (judge-rows t samples start scratch tally e) _ (accepted-scratch t samples start scratch e)
+judge-promise t samples start driven scratch tally e =
+    promised t samples start driven scratch (judge-rows t samples start driven scratch tally e) _ (accepted-scratch t samples start driven scratch e)
 
 -- ---- the answers
 
@@ -157,26 +177,26 @@ module _ (f : Sequence) (P : Predicate) (h : (i : ℕ) → T (f i) ↔ P i) wher
       go false e r = (λ j a b. absurd (omega arith), inr (omega arith, false-fails i e))
 
 -- the number and place of every judgement are its checks'
-pub said-outcome : (t samples : List ℕ) (start : ℕ) (scratch : List ℕ) (tally : Tally)
-    → (said (reply t samples start scratch tally .answer) .number ≡ outcomeNumber (judgeOutcome t samples start scratch tally))
-    × (said (reply t samples start scratch tally .answer) .place ≡ outcomePlace (judgeOutcome t samples start scratch tally))
+pub said-outcome : (t samples : List ℕ) (start driven : ℕ) (scratch : List ℕ) (tally : Tally)
+    → (said (reply t samples start driven scratch tally .answer) .number ≡ outcomeNumber (judgeOutcome t samples start driven scratch tally))
+    × (said (reply t samples start driven scratch tally .answer) .place ≡ outcomePlace (judgeOutcome t samples start driven scratch tally))
 unfolding reply replyBy
-said-outcome t samples start scratch tally = by (judgeOutcome t samples start scratch tally)
+said-outcome t samples start driven scratch tally = by (judgeOutcome t samples start driven scratch tally)
   where
-    by : (o : Outcome) → (said (replyBy o (lassoOf samples start) (rule t) tally .answer) .number ≡ outcomeNumber o)
-        × (said (replyBy o (lassoOf samples start) (rule t) tally .answer) .place ≡ outcomePlace o)
+    by : (o : Outcome) → (said (replyBy o (lassoOf samples start driven) (rule t) tally .answer) .number ≡ outcomeNumber o)
+        × (said (replyBy o (lassoOf samples start driven) (rule t) tally .answer) .place ≡ outcomePlace o)
     by Accepted = (refl, refl)
     by (Refused why) = (refl, refl)
 
 -- an accepted judgement, by the meaning of the rule
-pub accepted-judgement : (t samples : List ℕ) (start : ℕ) (scratch : List ℕ) (tally : Tally) → judgeOutcome t samples start scratch tally ≡ Accepted
-    → Judges (Holds (word (lassoOf samples start)) (rule t)) (length samples) (said (reply t samples start scratch tally .answer))
-    (lastRow (rowOutcome t samples start scratch) t samples start)
+pub accepted-judgement : (t samples : List ℕ) (start driven : ℕ) (scratch : List ℕ) (tally : Tally) → judgeOutcome t samples start driven scratch tally ≡ Accepted
+    → Judges (Holds (word (lassoOf samples start driven)) (rule t)) (length samples) (said (reply t samples start driven scratch tally .answer))
+    (lastRow (rowOutcome t samples start driven scratch) t samples start driven)
 unfolding reply lastRow replyBy rowOf
-accepted-judgement t samples start scratch tally e =
-    let r : Lasso = lassoOf samples start in
-    let rows = judge-rows t samples start scratch tally e in
-    let size : length (r .samples) ≡ length samples = ap (λ (x : Lasso). length (x .samples)) (inside t samples start scratch rows .1) in
+accepted-judgement t samples start driven scratch tally e =
+    let r : Lasso = lassoOf samples start driven in
+    let rows = judge-rows t samples start driven scratch tally e in
+    let size : length (r .samples) ≡ length samples = ap (λ (x : Lasso). length (x .samples)) (inside t samples start driven scratch rows .2) in
     let first = first-fails (truth r (rule t)) (Holds (word r) (rule t)) (truth-holds r (rule t)) 0 (length (r .samples)) in
     rw (e, rows, ← size) (record {
       accepted = (refl, refl);

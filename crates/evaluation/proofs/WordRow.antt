@@ -3,7 +3,7 @@ use Prim.Native.Nat.{ℕ, zero, suc, _+_, _-_, _*_, _/_, _≤_, _<_}
 use mathlib.Core.Path.{_≡_, refl, sym, ap, ap₂, subst, _∙_}
 use mathlib.Core.Bool.{Bool, false}
 use mathlib.Core.List.{List, [], _∷_, _++_}
-use native.Mathlib.Decide.{decLt}
+use native.Mathlib.Decide.{decLt, decLe}
 use native.Mathlib.Numerals.{add-one}
 use native.Mathlib.Nat.{mul-le-mul, mul-le-mul-right, le-trans}
 use native.Mathlib.Omega.{arith}
@@ -18,26 +18,30 @@ use Rattle.table.specs.declared.refusal.Outcome.the-variants.{Accepted}
 use Rattle.table.specs.Node.{kind, right, shape}
 use Rattle.table.specs.Table.{formulaOf, wordFormula, formulas}
 use Rattle.table.proofs.Formulas.{length-formulas, formula-at}
-use Rattle.table.proofs.Accepted.{WellFormedWord}
+use Rattle.table.proofs.Accepted.{WellFormed, WellFormedWord, accepted-well-formed}
 use Rattle.evaluation.specs.declared.operators.Operator.{Operator}
-use Rattle.evaluation.specs.Judging.{lassoBy, lassoOf, rowOf, rowNumber, rowOutcome, rowsThen, Standing}
+use Rattle.evaluation.specs.Judging.{lassoBy, lassoOf, rowOf, rowNumber, rowOutcome, rowsThen, Standing, Fillable}
 use Rattle.evaluation.specs.Looped.{Meaning, literally, operation, meaning, does, rowBy, Prepared, firstOperand}
 use Rattle.judge_checks.proofs.Outcomes.{Judgeable, judgeable}
 use Rattle.evaluation.proofs.Looped.{Earlier, operands-earlier, letter-known, word-row}
 use Rattle.evaluation.proofs.Scratch.{width, row-end, row-part, rowsThen-over, rowsThen-more}
 
--- samples and a loop start that is inside are a lasso
-abbrev pub Inside : List ℕ → ℕ → Type 0
-Inside samples start = (h : start < length samples) × (lassoOf samples start ≡ record { samples = samples; start = start; inside = h })
+-- samples, a loop start that is inside and a driven count of at most 32 are a lasso
+abbrev pub Inside : List ℕ → ℕ → ℕ → Type 0
+Inside samples start driven =
+    (h : start < length samples) × (k : driven ≤ 32)
+    × (lassoOf samples start driven ≡ record { samples = samples; start = start; driven = driven; inside = h; few = k })
 
-pub lasso-inside : (samples : List ℕ) (start : ℕ) → start < length samples → Inside samples start
+pub lasso-inside : (samples : List ℕ) (start driven : ℕ) → start < length samples → driven ≤ 32 → Inside samples start driven
 unfolding lassoOf
-lasso-inside samples start h = by (decLt start (length samples))
+lasso-inside samples start driven h k = by (decLt start (length samples)) (decLe driven 32)
   where
-    by : (d : Dec (start < length samples))
-        → (k : start < length samples) × (lassoBy samples start d ≡ record { samples = samples; start = start; inside = k })
-    by (yes k) = (k, refl)
-    by (no k) = absurd (k h)
+    by : (d : Dec (start < length samples)) (e : Dec (driven ≤ 32))
+        → (i : start < length samples) × (j : driven ≤ 32)
+        × (lassoBy samples start driven d e ≡ record { samples = samples; start = start; driven = driven; inside = i; few = j })
+    by (yes i) (yes j) = (i, j, refl)
+    by (yes i) (no j) = absurd (j k)
+    by (no i) e = absurd (i h)
 
 -- the row of an earlier word
 operand-row : (r : Lasso) (φs : List Formula) (s : List ℕ) (n : ℕ) → s ≡ rowsThen r φs s → 1 ≤ n → n ≤ length φs
@@ -52,18 +56,21 @@ operand-row r φs s (suc n) e h l =
 abbrev withRow : ℕ → ℕ → List ℕ → List ℕ → List ℕ
 withRow n words s e = take (n * words) s ++ (e ++ drop words (drop (n * words) s))
 
-pub accepted-facts : (t samples : List ℕ) (start : ℕ) (s : List ℕ) → rowOutcome t samples start s ≡ Accepted
-    → Judgeable t (length samples) start (length s)
+pub accepted-facts : (t samples : List ℕ) (start driven : ℕ) (s : List ℕ) → rowOutcome t samples start driven s ≡ Accepted
+    → Judgeable t (length samples) start driven (length s)
 unfolding rowOutcome
-accepted-facts t samples start s e = judgeable t (length samples) start (length s) e
+accepted-facts t samples start driven s e = judgeable t (length samples) start driven (length s) e
 
-pub few-samples : (t samples : List ℕ) (start : ℕ) (s : List ℕ) → rowOutcome t samples start s ≡ Accepted → length samples ≤ 4096
-few-samples t samples start s e = accepted-facts t samples start s e .few
+-- what the row call accepts can be filled
+pub accepted-fillable : (t samples : List ℕ) (start driven : ℕ) (s : List ℕ) → rowOutcome t samples start driven s ≡ Accepted → Fillable t samples start s
+accepted-fillable t samples start driven s e =
+    let f = accepted-facts t samples start driven s e in
+    record { accepted = f .accepted; some = f .some; few = f .few; inside = f .inside; room = f .room }
 
 module _ (t samples : List ℕ) (start j : ℕ) (s : List ℕ) (words : ℕ) (h : j < length t)
-    (accepted : rowOutcome t samples start s ≡ Accepted) (wide : words ≡ rowWords (length samples)) where
-  facts : Judgeable t (length samples) start (length s)
-  facts = accepted-facts t samples start s accepted
+    (facts : Fillable t samples start s) (wide : words ≡ rowWords (length samples)) where
+  well-formed : WellFormed false 16383 t
+  well-formed = accepted-well-formed false 16383 t (facts .accepted)
 
   few-words : words ≤ 64
   few-words = rw wide (omega (arith, facts .few))
@@ -73,7 +80,7 @@ module _ (t samples : List ℕ) (start j : ℕ) (s : List ℕ) (words : ℕ) (h 
 
   pub part-small : j * words + words ≤ 1048576
   part-small =
-      let few : j ≤ 16383 = omega (arith, facts .table .few) in
+      let few : j ≤ 16383 = omega (arith, well-formed .few) in
       omega (arith, mul-le-mul few few-words, few-words)
 
   pub part-for : RowFor (length samples) (take (j * words + words - j * words) (drop (j * words) s))
@@ -86,7 +93,7 @@ module _ (t samples : List ℕ) (start j : ℕ) (s : List ℕ) (words : ℕ) (h 
   }
 
   formed : WellFormedWord false (take j t) (suc j) (getD t j 0)
-  formed = facts .table .word j h
+  formed = well-formed .word j h
 
   pub start-inside : start < length samples
   start-inside = facts .inside
@@ -108,23 +115,24 @@ module _ (t samples : List ℕ) (start j : ℕ) (s : List ℕ) (words : ℕ) (h 
     letter-in c e = rw er (letter-known (take j t) (suc j) (getD t j 0) formed c (sym e ∙ means))
 
     -- the word's row in its part, from what is read and what the writer promises
-    pub row-filled : s ≡ rowsThen (lassoOf samples start) (take j (formulas t)) s → (a b e : List ℕ)
+    pub row-filled : (a b e : List ℕ)
         → ((f g : Sequence)
         → ((o : Operation) → does op ≡ operation o
         → (rowNumber (rowWords (length samples)) (l - 1) s ≡ row (length samples) f) × (rowNumber (rowWords (length samples)) (n - 1) s ≡ row (length samples) g))
         → Prepared op (length samples) f g a b)
         → ((f g : Sequence) → Prepared op (length samples) f g a b
         → e ≡ row (length samples) (rowBy (length samples) start samples (does op) n f g))
+        → (driven : ℕ) → driven ≤ 32 → s ≡ rowsThen (lassoOf samples start driven) (take j (formulas t)) s
         → take (j * words) s ++ (e ++ drop (j * words + words - j * words) (drop (j * words) s))
-        ≡ rowsThen (lassoOf samples start) (take (j + 1) (formulas t)) s
+        ≡ rowsThen (lassoOf samples start driven) (take (j + 1) (formulas t)) s
     unfolding rowOf
-    row-filled so-far a b e prepared promised =
+    row-filled a b e prepared promised driven few so-far =
         let w : ℕ = getD t j 0 in
         let φs : List Formula = take j (formulas t) in
         let m : length φs ≡ j = length-take-le j (formulas t) (omega (arith, length-formulas t)) in
-        let i : Inside samples start = lasso-inside samples start (facts .inside) in
-        let r : Lasso = record { samples = samples; start = start; inside = i .0 } in
-        let stands : s ≡ rowsThen r φs s = subst (λ (x : Lasso). s ≡ rowsThen x φs s) (i .1) so-far in
+        let i : Inside samples start driven = lasso-inside samples start driven (facts .inside) few in
+        let r : Lasso = record { samples = samples; start = start; driven = driven; inside = i .0; few = i .1 } in
+        let stands : s ≡ rowsThen r φs s = subst (λ (x : Lasso). s ≡ rowsThen x φs s) (i .2) so-far in
         let f : Sequence = truth r (formulaOf φs (firstOperand w)) in
         let g : Sequence = truth r (formulaOf φs (right w)) in
         let read : (k : ℕ) → Earlier (suc j) k → rowNumber (rowWords (length samples)) (k - 1) s ≡ rowOf r (formulaOf φs k)
@@ -148,15 +156,13 @@ module _ (t samples : List ℕ) (start j : ℕ) (s : List ℕ) (words : ℕ) (h 
         ∙ ap₂ (λ (x : ℕ) (y : List ℕ). withRow x words s y) (sym m) written
         ∙ ap₂ (λ (x : ℕ) (y : List ℕ). withRow (length φs) x y (rowOf r (wordFormula φs w))) wide stands
         ∙ rowsThen-more r φs (wordFormula φs w) s
-        ∙ ap₂ (λ (x : Lasso) (y : List Formula). rowsThen x y s) (sym (i .1)) more
+        ∙ ap₂ (λ (x : Lasso) (y : List Formula). rowsThen x y s) (sym (i .2)) more
 
 -- ---- the turns one after another
 
--- the checks look at a scratch's length alone
-pub outcome-length : (t samples : List ℕ) (start : ℕ) (s u : List ℕ) → length u ≡ length s
-    → rowOutcome t samples start s ≡ Accepted → rowOutcome t samples start u ≡ Accepted
-unfolding rowOutcome
-outcome-length t samples start s u e h = rw e h
+-- of a scratch its length alone is looked at
+pub fillable-length : {t samples : List ℕ} {start : ℕ} (s u : List ℕ) → length u ≡ length s → Fillable t samples start s → Fillable t samples start u
+fillable-length s u e f = record { accepted = f .accepted; some = f .some; few = f .few; inside = f .inside; room = rw e (f .room) }
 
 module _ (r : Lasso) (t s u : List ℕ) (j : ℕ) (h : j ≤ length t) (e : u ≡ rowsThen r (take j (formulas t)) s) where
   length-first : length (take j (formulas t)) ≡ j

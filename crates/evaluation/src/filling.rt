@@ -1,15 +1,14 @@
 // The rows of a table's words, in rising word number from the start of the scratch.
 ghost use mathlib.Core.Path.{_≡_};
 ghost use mathlib.Core.Bool.{Bool};
-ghost use Prim.Native.Nat.{_+_, _-_, _*_, _≤_, _<_};
+ghost use Prim.Native.Nat.{ℕ, _+_, _-_, _*_, _≤_, _<_};
 ghost use lib.ListN.{length, take};
-ghost use Rattle.table.specs.declared.refusal.Outcome.the-variants.{Accepted};
 ghost use Rattle.table.specs.Table.{formulas};
 ghost use Rattle.logic.specs.Truth.{Sequence, Operation, across};
 ghost use Rattle.row_words.specs.Row as rows;
 ghost use Rattle.row_words.specs.Writing.{RowFor, joins};
 ghost use Rattle.evaluation.specs.Looped.{literally, operation, does, rowBy, Prepared, firstOperand};
-ghost use Rattle.evaluation.specs.Judging.{lassoOf, rowNumber, rowOutcome, rowsThen, Standing};
+ghost use Rattle.evaluation.specs.Judging.{lassoOf, rowNumber, rowsThen, Standing, Fillable};
 use crate::operators::Operator;
 use crate::operators::of_kind;
 use judge_checks::checks::row_words;
@@ -170,10 +169,11 @@ fn fill_row(
     a: &mut [u64],
     b: &mut [u64],
 )
-    requires { ⌜ (j < length (now table)) × (rowOutcome (now table) (now samples) start (now scratch) ≡ Accepted) ⌝ }
-    requires { ⌜ now scratch ≡ rowsThen (lassoOf (now samples) start) (take j (formulas (now table))) (now scratch) ⌝ }
+    requires { ⌜ (j < length (now table)) × Fillable (now table) (now samples) start (now scratch) ⌝ }
     requires { ⌜ RowFor (length (now samples)) (now a) × RowFor (length (now samples)) (now b) ⌝ }
-    ensures { λ _. ⌜ now (scratch .exit) ≡ rowsThen (lassoOf (now (samples .entry)) start) (take (j + 1) (formulas (now (table .entry)))) (now (scratch .entry)) ⌝ }
+    ensures { λ _. ⌜ ((driven : ℕ) → driven ≤ 32
+        → now (scratch .entry) ≡ rowsThen (lassoOf (now (samples .entry)) start driven) (take j (formulas (now (table .entry)))) (now (scratch .entry))
+        → now (scratch .exit) ≡ rowsThen (lassoOf (now (samples .entry)) start driven) (take (j + 1) (formulas (now (table .entry)))) (now (scratch .entry))) ⌝ }
 {
     let words = row_words(samples.len());
     let word = table[j];
@@ -185,9 +185,11 @@ fn fill_row(
     write_word(&mut scratch[from..to], op, right, a, b, samples, start);
 }
 
+// The rows of all words, whatever letters are driven: the checks have seen to it that no other is named.
 pub fn fill_rows(table: &[u32], samples: &[u32], start: usize, scratch: &mut [u64])
-    requires { ⌜ rowOutcome (now table) (now samples) start (now scratch) ≡ Accepted ⌝ }
-    ensures { λ _. ⌜ now (scratch .exit) ≡ rowsThen (lassoOf (now (samples .entry)) start) (formulas (now (table .entry))) (now (scratch .entry)) ⌝ }
+    requires { ⌜ Fillable (now table) (now samples) start (now scratch) ⌝ }
+    ensures { λ _. ⌜ ((driven : ℕ) → driven ≤ 32
+        → now (scratch .exit) ≡ rowsThen (lassoOf (now (samples .entry)) start driven) (formulas (now (table .entry))) (now (scratch .entry))) ⌝ }
 {
     let words = row_words(samples.len());
     let mut a = [0u64; 64];

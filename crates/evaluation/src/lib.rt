@@ -4,12 +4,13 @@ mod filling;
 mod operators;
 
 ghost use mathlib.Core.Path.{_≡_};
+ghost use Prim.Native.Nat.{ℕ, _≤_};
 ghost use Rattle.row_words.specs.Writing.{RowFor};
 ghost use Rattle.row_words.specs.Row as rows;
 ghost use Rattle.logic.specs.Truth.{Sequence};
 ghost use Rattle.table.specs.declared.refusal.Outcome.the-variants.{Accepted};
 ghost use Rattle.table.specs.Table.{formulas};
-ghost use Rattle.evaluation.specs.Judging.{lassoOf, rowsThen, rowOutcome, judgeOutcome, judgement, reply, scratchAfter, lastRow, partAt};
+ghost use Rattle.evaluation.specs.Judging.{Fillable, lassoOf, rowsThen, rowOutcome, judgeOutcome, judgement, reply, scratchAfter, lastRow, partAt};
 ghost use Rattle.table.specs.Refusals.{outcomeNumber, outcomePlace};
 ghost use Rattle.judge_checks.specs.Tallies.{tallyAfter};
 use crate::answer::Judged;
@@ -45,7 +46,7 @@ fn read_answer(row: &[u64], positions: usize, tally: Tally) -> Judged
     }
 }
 
-// A judgement that the checks accept.
+// A judgement that the checks accept, for whatever driven count they do.
 fn judge_accepted(
     table: &[u32],
     samples: &[u32],
@@ -53,9 +54,11 @@ fn judge_accepted(
     scratch: &mut [u64],
     tally: Tally,
 ) -> Judged
-    requires { ⌜ judgeOutcome (now table) (now samples) start (now scratch) tally ≡ Accepted ⌝ }
-    ensures { λ r. ⌜ r ≡ reply (now (table .entry)) (now (samples .entry)) start (now (scratch .entry)) tally ⌝ }
-    ensures { λ _. ⌜ now (scratch .exit) ≡ rowsThen (lassoOf (now (samples .entry)) start) (formulas (now (table .entry))) (now (scratch .entry)) ⌝ }
+    requires { ⌜ Fillable (now table) (now samples) start (now scratch) ⌝ }
+    ensures { λ r. ⌜ ((driven : ℕ) → judgeOutcome (now (table .entry)) (now (samples .entry)) start driven (now (scratch .entry)) tally ≡ Accepted
+        → r ≡ reply (now (table .entry)) (now (samples .entry)) start driven (now (scratch .entry)) tally) ⌝ }
+    ensures { λ _. ⌜ ((driven : ℕ) → driven ≤ 32
+        → now (scratch .exit) ≡ rowsThen (lassoOf (now (samples .entry)) start driven) (formulas (now (table .entry))) (now (scratch .entry))) ⌝ }
 {
     fill_rows(table, samples, start, scratch);
     let words = row_words(samples.len());
@@ -68,13 +71,14 @@ pub fn judge(
     table: &[u32],
     samples: &[u32],
     start: usize,
+    driven: usize,
     scratch: &mut [u64],
     tally: Tally,
 ) -> Judged
-    ensures { λ r. ⌜ r ≡ reply (now (table .entry)) (now (samples .entry)) start (now (scratch .entry)) tally ⌝ }
-    ensures { λ _. ⌜ now (scratch .exit) ≡ scratchAfter (judgeOutcome (now (table .entry)) (now (samples .entry)) start (now (scratch .entry)) tally) (now (table .entry)) (now (samples .entry)) start (now (scratch .entry)) ⌝ }
+    ensures { λ r. ⌜ r ≡ reply (now (table .entry)) (now (samples .entry)) start driven (now (scratch .entry)) tally ⌝ }
+    ensures { λ _. ⌜ now (scratch .exit) ≡ scratchAfter (judgeOutcome (now (table .entry)) (now (samples .entry)) start driven (now (scratch .entry)) tally) (now (table .entry)) (now (samples .entry)) start driven (now (scratch .entry)) ⌝ }
 {
-    match check_judge(table, samples.len(), start, scratch.len(), tally) {
+    match check_judge(table, samples.len(), start, driven, scratch.len(), tally) {
         Outcome::Refused(why) => {
             let answer = Judgement::Refused(why);
             Judged { answer, tally }
@@ -84,11 +88,17 @@ pub fn judge(
 }
 
 // The rows alone, with no tally.
-pub fn fill(table: &[u32], samples: &[u32], start: usize, scratch: &mut [u64]) -> Outcome
-    ensures { λ r. ⌜ r ≡ rowOutcome (now (table .entry)) (now (samples .entry)) start (now (scratch .entry)) ⌝ }
-    ensures { λ r. ⌜ now (scratch .exit) ≡ scratchAfter r (now (table .entry)) (now (samples .entry)) start (now (scratch .entry)) ⌝ }
+pub fn fill(
+    table: &[u32],
+    samples: &[u32],
+    start: usize,
+    driven: usize,
+    scratch: &mut [u64],
+) -> Outcome
+    ensures { λ r. ⌜ r ≡ rowOutcome (now (table .entry)) (now (samples .entry)) start driven (now (scratch .entry)) ⌝ }
+    ensures { λ r. ⌜ now (scratch .exit) ≡ scratchAfter r (now (table .entry)) (now (samples .entry)) start driven (now (scratch .entry)) ⌝ }
 {
-    match check_row(table, samples.len(), start, scratch.len()) {
+    match check_row(table, samples.len(), start, driven, scratch.len()) {
         Outcome::Refused(why) => Outcome::Refused(why),
         Outcome::Accepted => {
             fill_rows(table, samples, start, scratch);
@@ -103,16 +113,17 @@ pub fn row<'a>(
     table: &[u32],
     samples: &[u32],
     start: usize,
+    driven: usize,
     scratch: &'a mut [u64],
     number: &mut u32,
     place: &mut usize,
 ) -> &'a mut [u64]
-    ensures { λ r. ⌜ now r ≡ lastRow (rowOutcome (now (table .entry)) (now (samples .entry)) start (now (scratch .entry))) (now (table .entry)) (now (samples .entry)) start ⌝ }
-    ensures { λ r. ⌜ r .ptr ≡ partAt (rowOutcome (now (table .entry)) (now (samples .entry)) start (now (scratch .entry))) (now (table .entry)) (now (samples .entry)) (scratch .entry .ptr) ⌝ }
-    ensures { λ _. ⌜ now (number .exit) ≡ outcomeNumber (rowOutcome (now (table .entry)) (now (samples .entry)) start (now (scratch .entry))) ⌝ }
-    ensures { λ _. ⌜ now (place .exit) ≡ outcomePlace (rowOutcome (now (table .entry)) (now (samples .entry)) start (now (scratch .entry))) ⌝ }
+    ensures { λ r. ⌜ now r ≡ lastRow (rowOutcome (now (table .entry)) (now (samples .entry)) start driven (now (scratch .entry))) (now (table .entry)) (now (samples .entry)) start driven ⌝ }
+    ensures { λ r. ⌜ r .ptr ≡ partAt (rowOutcome (now (table .entry)) (now (samples .entry)) start driven (now (scratch .entry))) (now (table .entry)) (now (samples .entry)) (scratch .entry .ptr) ⌝ }
+    ensures { λ _. ⌜ now (number .exit) ≡ outcomeNumber (rowOutcome (now (table .entry)) (now (samples .entry)) start driven (now (scratch .entry))) ⌝ }
+    ensures { λ _. ⌜ now (place .exit) ≡ outcomePlace (rowOutcome (now (table .entry)) (now (samples .entry)) start driven (now (scratch .entry))) ⌝ }
 {
-    match fill(table, samples, start, scratch) {
+    match fill(table, samples, start, driven, scratch) {
         Outcome::Refused(why) => {
             let report = refusal::report_of(why);
             *number = report.0;

@@ -1,2 +1,3 @@
 -- What the checks of a judgement say.
+pub mod Letters
 pub mod Outcomes

@@ -1,72 +1,96 @@
 -- What the checks of the two calls say, step by step, and what is known where they accept.
 use Prim.Native.Nat.{ℕ, _*_, _≤_, _<_}
-use mathlib.Core.Path.{_≡_, sym, ap, _∙_}
+use mathlib.Core.Path.{_≡_}
 use mathlib.Core.Bool.{false}
-use mathlib.Core.List.{List, _++_, append-assoc}
+use mathlib.Core.List.{List, _++_}
 use native.Mathlib.Omega.{arith}
 use lib.ListN.{length}
-use borrow.Author.Tests.{ltb-false, leb-false, eqb-false}
+use borrow.Author.Tests.{ltb-false, leb-false, eqb-false, ne-eqb, le-ltb, lt-leb}
 use Rattle.table.specs.declared.refusal.Refusal.{Refusal}
 use Rattle.table.specs.declared.refusal.Outcome.the-variants.{Accepted, Refused}
 use Rattle.table.specs.Refusals.{Check, first}
 use Rattle.table.specs.Checks.{tableChecks, checked}
+use Rattle.table.specs.StepChecks.{drivenChecks, letterChecks}
 use Rattle.row_words.specs.Row.{rowWords}
 use Rattle.judge_checks.specs.Checks.{recordingChecks, scratchChecks, tallyChecks, rowChecks, judgeChecks}
 use Rattle.judge_checks.specs.declared.tally.Tally.{Tally}
-use Rattle.table.proofs.First.{Passed, first-passed, first-append-accepted, first-append-refused, first-append-both}
-use Rattle.table.proofs.Accepted.{WellFormed, accepted-well-formed}
+use Rattle.table.proofs.First.{Passed, first-passed, passed-first, first-append-accepted, first-append-refused, first-append-both}
 
 -- a table, a recording and a scratch that the row call accepts
-pub record Judgeable (t : List ℕ) (samples start scratch : ℕ) : Type 0 where
-  pub table : WellFormed false 16383 t
+pub record Judgeable (t : List ℕ) (samples start driven scratch : ℕ) : Type 0 where
+  pub accepted : checked false 16383 t ≡ Accepted
   pub some : 1 ≤ samples
   pub few : samples ≤ 4096
   pub inside : start < samples
+  pub few-driven : driven ≤ 32
+  pub letters : first (letterChecks driven 1 t) ≡ Accepted
   pub room : length t * rowWords samples ≤ scratch
 
-module _ (t : List ℕ) (samples start scratch : ℕ) where
+module _ (t : List ℕ) (samples start driven scratch : ℕ) where
+  -- 21 and 16, and what comes before them
+  named : List Check
+  named = letterChecks driven 1 t ++ scratchChecks (length t) samples scratch
+
   memory : List Check
-  memory = recordingChecks samples start ++ scratchChecks (length t) samples scratch
+  memory = recordingChecks samples start driven ++ named
 
-  table-first : first (rowChecks t samples start scratch) ≡ first (tableChecks false 16383 t ++ memory)
-  unfolding rowChecks memory
-  table-first = ap first (append-assoc (tableChecks false 16383 t) (recordingChecks samples start) (scratchChecks (length t) samples scratch))
-
-  pub row-refused : (why : Refusal) → checked false 16383 t ≡ Refused why → first (rowChecks t samples start scratch) ≡ Refused why
-  unfolding checked
-  row-refused why e = table-first ∙ first-append-refused (tableChecks false 16383 t) memory why e
+  pub row-refused : (why : Refusal) → checked false 16383 t ≡ Refused why → first (rowChecks t samples start driven scratch) ≡ Refused why
+  unfolding checked rowChecks memory named
+  row-refused why e = first-append-refused (tableChecks false 16383 t) memory why e
 
   pub row-accepted : checked false 16383 t ≡ Accepted
-      → first (rowChecks t samples start scratch) ≡ first (recordingChecks samples start ++ scratchChecks (length t) samples scratch)
-  unfolding checked memory
-  row-accepted e = table-first ∙ first-append-accepted (tableChecks false 16383 t) memory e
+      → first (rowChecks t samples start driven scratch)
+      ≡ first (recordingChecks samples start driven ++ (letterChecks driven 1 t ++ scratchChecks (length t) samples scratch))
+  unfolding checked rowChecks memory named
+  row-accepted e = first-append-accepted (tableChecks false 16383 t) memory e
 
-  pub judgeable : first (rowChecks t samples start scratch) ≡ Accepted → Judgeable t samples start scratch
-  unfolding checked memory recordingChecks scratchChecks
+  pub judgeable : first (rowChecks t samples start driven scratch) ≡ Accepted → Judgeable t samples start driven scratch
+  unfolding checked rowChecks memory named recordingChecks drivenChecks scratchChecks
   judgeable e =
-      let ts = first-append-both (tableChecks false 16383 t) memory .0 (sym table-first ∙ e) in
-      let ms = first-append-both (recordingChecks samples start) (scratchChecks (length t) samples scratch) .0 (ts .1) in
-      let p : Passed (recordingChecks samples start) = first-passed (recordingChecks samples start) (ms .0) in
+      let ts = first-append-both (tableChecks false 16383 t) memory .0 e in
+      let ms = first-append-both (recordingChecks samples start driven) named .0 (ts .1) in
+      let ns = first-append-both (letterChecks driven 1 t) (scratchChecks (length t) samples scratch) .0 (ms .1) in
+      let p : Passed (recordingChecks samples start driven) = first-passed (recordingChecks samples start driven) (ms .0) in
       record {
-        table = accepted-well-formed false 16383 t (ts .0);
+        accepted = ts .0;
         some = omega (arith, eqb-false samples 0 (p .0));
         few = ltb-false 4096 samples (p .1 .0);
         inside = leb-false samples start (p .1 .1 .0);
-        room = ltb-false scratch (length t * rowWords samples) (first-passed (scratchChecks (length t) samples scratch) (ms .1) .0);
+        few-driven = ltb-false 32 driven (p .1 .1 .1 .0);
+        letters = ns .0;
+        room = ltb-false scratch (length t * rowWords samples) (first-passed (scratchChecks (length t) samples scratch) (ns .1) .0);
       }
 
+  -- and what is so is accepted
+  pub judgeable-accepted : Judgeable t samples start driven scratch → first (rowChecks t samples start driven scratch) ≡ Accepted
+  unfolding checked rowChecks memory named recordingChecks drivenChecks scratchChecks
+  judgeable-accepted f =
+      first-append-both (tableChecks false 16383 t) memory .1 (
+        f .accepted,
+        first-append-both (recordingChecks samples start driven) named .1 (
+          passed-first (recordingChecks samples start driven) (
+            ne-eqb samples 0 (λ e. omega (arith, f .some)),
+            (le-ltb 4096 samples (f .few), (lt-leb samples start (f .inside), (le-ltb 32 driven (f .few-driven), tt))),
+          ),
+          first-append-both (letterChecks driven 1 t) (scratchChecks (length t) samples scratch) .1 (
+            f .letters,
+            passed-first (scratchChecks (length t) samples scratch) (le-ltb scratch (length t * rowWords samples) (f .room), tt),
+          ),
+        ),
+      )
+
   -- the judge's checks are the row call's, and then the tally's
-  pub judge-refused : (tally : Tally) (why : Refusal) → first (rowChecks t samples start scratch) ≡ Refused why
-      → first (judgeChecks t samples start scratch tally) ≡ Refused why
+  pub judge-refused : (tally : Tally) (why : Refusal) → first (rowChecks t samples start driven scratch) ≡ Refused why
+      → first (judgeChecks t samples start driven scratch tally) ≡ Refused why
   unfolding judgeChecks
-  judge-refused tally why e = first-append-refused (rowChecks t samples start scratch) (tallyChecks tally) why e
+  judge-refused tally why e = first-append-refused (rowChecks t samples start driven scratch) (tallyChecks tally) why e
 
-  pub judge-accepted : (tally : Tally) → first (rowChecks t samples start scratch) ≡ Accepted
-      → first (judgeChecks t samples start scratch tally) ≡ first (tallyChecks tally)
+  pub judge-accepted : (tally : Tally) → first (rowChecks t samples start driven scratch) ≡ Accepted
+      → first (judgeChecks t samples start driven scratch tally) ≡ first (tallyChecks tally)
   unfolding judgeChecks
-  judge-accepted tally e = first-append-accepted (rowChecks t samples start scratch) (tallyChecks tally) e
+  judge-accepted tally e = first-append-accepted (rowChecks t samples start driven scratch) (tallyChecks tally) e
 
-  pub judge-both : (tally : Tally) → first (judgeChecks t samples start scratch tally) ≡ Accepted
-      → (first (rowChecks t samples start scratch) ≡ Accepted) × (first (tallyChecks tally) ≡ Accepted)
+  pub judge-both : (tally : Tally) → first (judgeChecks t samples start driven scratch tally) ≡ Accepted
+      → (first (rowChecks t samples start driven scratch) ≡ Accepted) × (first (tallyChecks tally) ≡ Accepted)
   unfolding judgeChecks
-  judge-both tally e = first-append-both (rowChecks t samples start scratch) (tallyChecks tally) .0 e
+  judge-both tally e = first-append-both (rowChecks t samples start driven scratch) (tallyChecks tally) .0 e

@@ -1,4 +1,4 @@
--- The checks of the two calls after those of their table, in document 01's order: 13 to 17.
+-- The checks of the two calls after those of their table, in their order: 13 to 15, 22, 21, 16, 17.
 use Prim.Native.Nat.{ℕ, _*_}
 use mathlib.Core.Bool.{false}
 use mathlib.Core.List.{List, [], _∷_, _++_}
@@ -8,16 +8,17 @@ use Rattle.row_words.specs.Row.{rowWords}
 use Rattle.table.specs.declared.refusal.Refusal.the-variants.{NoSample, TooManySamples, LoopStartOutside, ScratchTooShort, TallyFull}
 use Rattle.table.specs.Refusals.{Check, _⇒_}
 use Rattle.table.specs.Checks.{tableChecks}
+use Rattle.table.specs.StepChecks.{drivenChecks, letterChecks}
 use Rattle.judge_checks.specs.declared.tally.Tally.{Tally}
 use Rattle.judge_checks.specs.Tallies.{isFull}
 
--- 13 to 15: a recording of so many samples, with its loop start
-unfoldable pub recordingChecks : ℕ → ℕ → List Check
-recordingChecks samples start =
+-- 13 to 15, then 22: a recording of so many samples, with its loop start and how many letters it drives
+unfoldable pub recordingChecks : ℕ → ℕ → ℕ → List Check
+recordingChecks samples start driven =
     (eqb samples 0 ⇒ NoSample)
     ∷ (ltb 4096 samples ⇒ TooManySamples)
     ∷ (leb samples start ⇒ LoopStartOutside)
-    ∷ []
+    ∷ drivenChecks driven
 
 -- 16: the rows of so many words need more than the scratch has
 unfoldable pub scratchChecks : ℕ → ℕ → ℕ → List Check
@@ -28,8 +29,12 @@ unfoldable pub tallyChecks : Tally → List Check
 tallyChecks tally = (isFull tally ⇒ TallyFull) ∷ []
 
 -- the row call
-unfoldable pub rowChecks : List ℕ → ℕ → ℕ → ℕ → List Check
-rowChecks t samples start scratch = tableChecks false 16383 t ++ recordingChecks samples start ++ scratchChecks (length t) samples scratch
+unfoldable pub rowChecks : List ℕ → ℕ → ℕ → ℕ → ℕ → List Check
+rowChecks t samples start driven scratch =
+    tableChecks false 16383 t
+    ++ (recordingChecks samples start driven
+    ++ (letterChecks driven 1 t
+    ++ scratchChecks (length t) samples scratch))
 
-unfoldable pub judgeChecks : List ℕ → ℕ → ℕ → ℕ → Tally → List Check
-judgeChecks t samples start scratch tally = rowChecks t samples start scratch ++ tallyChecks tally
+unfoldable pub judgeChecks : List ℕ → ℕ → ℕ → ℕ → ℕ → Tally → List Check
+judgeChecks t samples start driven scratch tally = rowChecks t samples start driven scratch ++ tallyChecks tally

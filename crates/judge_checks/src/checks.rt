@@ -4,14 +4,17 @@ ghost use Prim.Native.Nat.{_≤_};
 ghost use mathlib.Core.List.{_++_};
 ghost use Rattle.table.specs.Refusals.{first};
 ghost use Rattle.row_words.specs.Row.{rowWords};
+ghost use lib.ListN.{length};
+ghost use Rattle.table.specs.StepChecks.{isUndriven, letterChecks};
 ghost use Rattle.judge_checks.specs.Checks.{recordingChecks, scratchChecks, tallyChecks, rowChecks, judgeChecks};
 use crate::tally::Tally;
 use table::refusal::Outcome;
 use table::refusal::Refusal;
+use table::word;
 
-// 13 to 15.
-pub fn check_recording(samples: usize, start: usize) -> Outcome
-    ensures { λ r. ⌜ r ≡ first (recordingChecks samples start) ⌝ }
+// 13 to 15, then 22.
+pub fn check_recording(samples: usize, start: usize, driven: usize) -> Outcome
+    ensures { λ r. ⌜ r ≡ first (recordingChecks samples start driven) ⌝ }
 {
     if samples == 0 {
         return Outcome::Refused(Refusal::NoSample);
@@ -21,6 +24,33 @@ pub fn check_recording(samples: usize, start: usize) -> Outcome
     }
     if start >= samples {
         return Outcome::Refused(Refusal::LoopStartOutside);
+    }
+    if driven > 32 {
+        return Outcome::Refused(Refusal::TooManyDriven);
+    }
+    Outcome::Accepted
+}
+
+// Whether a word names a letter that is not driven.
+fn is_undriven(word: u32, driven: usize) -> bool
+    ensures { λ r. ⌜ r ≡ isUndriven driven word ⌝ }
+{
+    match word::kind(word) {
+        3..=4 => word::right(word) > driven,
+        _ => false,
+    }
+}
+
+// 21: the lowest word that names one.
+pub fn check_letters(table: &[u32], driven: usize) -> Outcome
+    ensures { λ r. ⌜ r ≡ first (letterChecks driven 1 (now (table .entry))) ⌝ }
+{
+    let mut i = 0;
+    while i < table.len() {
+        if is_undriven(table[i], driven) {
+            return Outcome::Refused(Refusal::LetterNotDriven(i + 1));
+        }
+        i += 1;
     }
     Outcome::Accepted
 }
@@ -44,14 +74,32 @@ pub fn check_scratch(words: usize, samples: usize, scratch: usize) -> Outcome
     Outcome::Accepted
 }
 
-// 13 to 16, of a table of so many words.
-pub fn check_memory(words: usize, samples: usize, start: usize, scratch: usize) -> Outcome
-    requires { ⌜ words ≤ 16383 ⌝ }
-    ensures { λ r. ⌜ r ≡ first (recordingChecks samples start ++ scratchChecks words samples scratch) ⌝ }
+// 21, then 16.
+pub fn check_words(table: &[u32], samples: usize, driven: usize, scratch: usize) -> Outcome
+    requires { ⌜ (length (now table) ≤ 16383) × (samples ≤ 4096) ⌝ }
+    ensures { λ r. ⌜ r ≡ first (letterChecks driven 1 (now (table .entry)) ++ scratchChecks (length (now (table .entry))) samples scratch) ⌝ }
 {
-    match check_recording(samples, start) {
+    match check_letters(table, driven) {
         Outcome::Refused(why) => Outcome::Refused(why),
-        Outcome::Accepted => check_scratch(words, samples, scratch),
+        Outcome::Accepted => check_scratch(table.len(), samples, scratch),
+    }
+}
+
+// 13 to 15, 22, 21 and 16, of a table that passes 1 to 10.
+pub fn check_memory(
+    table: &[u32],
+    samples: usize,
+    start: usize,
+    driven: usize,
+    scratch: usize,
+) -> Outcome
+    requires { ⌜ length (now table) ≤ 16383 ⌝ }
+    ensures { λ r. ⌜ r ≡ first (recordingChecks samples start driven
+        ++ (letterChecks driven 1 (now (table .entry)) ++ scratchChecks (length (now (table .entry))) samples scratch)) ⌝ }
+{
+    match check_recording(samples, start, driven) {
+        Outcome::Refused(why) => Outcome::Refused(why),
+        Outcome::Accepted => check_words(table, samples, driven, scratch),
     }
 }
 
@@ -66,12 +114,18 @@ pub fn check_tally(tally: Tally) -> Outcome
 }
 
 // The row call's.
-pub fn check_row(table: &[u32], samples: usize, start: usize, scratch: usize) -> Outcome
-    ensures { λ r. ⌜ r ≡ first (rowChecks (now (table .entry)) samples start scratch) ⌝ }
+pub fn check_row(
+    table: &[u32],
+    samples: usize,
+    start: usize,
+    driven: usize,
+    scratch: usize,
+) -> Outcome
+    ensures { λ r. ⌜ r ≡ first (rowChecks (now (table .entry)) samples start driven scratch) ⌝ }
 {
     match reading::check(table, false, 16383) {
         Outcome::Refused(why) => Outcome::Refused(why),
-        Outcome::Accepted => check_memory(table.len(), samples, start, scratch),
+        Outcome::Accepted => check_memory(table, samples, start, driven, scratch),
     }
 }
 
@@ -80,12 +134,13 @@ pub fn check_judge(
     table: &[u32],
     samples: usize,
     start: usize,
+    driven: usize,
     scratch: usize,
     tally: Tally,
 ) -> Outcome
-    ensures { λ r. ⌜ r ≡ first (judgeChecks (now (table .entry)) samples start scratch tally) ⌝ }
+    ensures { λ r. ⌜ r ≡ first (judgeChecks (now (table .entry)) samples start driven scratch tally) ⌝ }
 {
-    match check_row(table, samples, start, scratch) {
+    match check_row(table, samples, start, driven, scratch) {
         Outcome::Refused(why) => Outcome::Refused(why),
         Outcome::Accepted => check_tally(tally),
     }

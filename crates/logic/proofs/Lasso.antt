@@ -5,3 +5,4 @@ pub mod Truth
 pub mod Sweep
 pub mod Duality
 pub mod Stability
+pub mod Driven

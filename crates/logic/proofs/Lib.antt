@@ -3,6 +3,7 @@ pub mod Numbers
 pub mod Pigeonhole
 pub mod Tests
 pub mod Examples
+pub mod Letters
 pub mod Hierarchy
 pub mod Lasso
 pub mod Normal

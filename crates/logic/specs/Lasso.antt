@@ -1,6 +1,6 @@
 -- Recordings: a word over valuations, finite or looped for ever (an ultimately periodic word, a lasso).
 -- Document 01 calls a valuation a sample and a position a moment.
-use Prim.Native.Nat.{ℕ, zero, suc, _+_, _-_, _/_, _%_, _^_, _<_}
+use Prim.Native.Nat.{ℕ, zero, suc, _+_, _-_, _/_, _%_, _^_, _<_, _≤_}
 use mathlib.Core.Bool.{Bool, cond}
 use mathlib.Core.List.{List}
 use lib.ListN.{length, getD}
@@ -14,11 +14,14 @@ Word = ℕ → ℕ
 unfoldable pub letterIn : ℕ → ℕ → Bool
 letterIn v n = eqb (v / 2 ^ (n - 1) % 2) 1
 
--- at least one sample, and a loop start below their number
+-- at least one sample, a loop start below their number, and how many letters are driven: letters 1 to that one, at most 32.
+-- What is not driven is no reading: specs/Driven.antt says of which formulas a lasso may be asked.
 pub record Lasso : Type 0 where
   pub samples : List ℕ
   pub start : ℕ
+  pub driven : ℕ
   pub inside : start < length samples
+  pub few : driven ≤ 32
 
 -- the sample that a position has, with L samples and loop start s: its own below L, and round the loop after that
 unfoldable pub place : ℕ → ℕ → ℕ → ℕ

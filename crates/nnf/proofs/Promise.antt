@@ -15,7 +15,7 @@ use Rattle.logic.proofs.Lasso.Duality as duality
 use Rattle.table.specs.declared.refusal.Outcome.the-variants.{Accepted}
 use Rattle.table.specs.Node.{Shape, none, constant, letter, unary, binary, kind, left, right, shape, leftField, rightField}
 use Rattle.table.specs.Table.{formulas, formulaOf, formulaBy, rule}
-use Rattle.table.specs.Checks.{isOperand, isProposition, checked}
+use Rattle.table.specs.Checks.{isOperand, checked}
 use Rattle.table.specs.Steps.{plainTable}
 use Rattle.table.specs.declared.answer.Answer.the-variants.{Made}
 use Rattle.table.specs.declared.limits.Limits.{Limits}
@@ -23,8 +23,9 @@ use Rattle.table.specs.Numbering.{fits}
 use Rattle.table.specs.Frame.{plainStep, answerOf, resultOf}
 use Rattle.table.proofs.Frame.{made-answer, made-result}
 use Rattle.table.proofs.Accepted.{WellFormedWord, accepted-well-formed, accepted-formula}
+use Rattle.table.proofs.Letters.{formula-letters}
 use Rattle.numbering.specs.Held.{Distinct, Held}
-use Rattle.numbering.specs.Letters.{Letters}
+use Rattle.logic.specs.Letters.{Letters}
 use Rattle.numbering.proofs.Building.{tableOf-distinct}
 use Rattle.numbering.proofs.Built.{Built, Hereditary, tableOf-built, made-held, held-once}
 use Rattle.numbering.proofs.Used.{rule-tableOf}
@@ -33,34 +34,11 @@ use Rattle.placing.proofs.Putting.{fits-true}
 use Rattle.nnf.specs.Forming.{formOf, slotOf}
 use Rattle.nnf.proofs.Filling.{slot-same, slot-bounds}
 use Rattle.logic.proofs.Pigeonhole.{pigeonhole}
+use Rattle.logic.proofs.Letters.{letters-plain}
 
 -- the letters of a formula are 1 to 32
 abbrev Lettered : Formula → Type 0
 Lettered = Letters (λ p. (0 < p) × (p ≤ 32))
-
-letters-by : (s : Shape) (n : ℕ) (a b : Formula) → (isProposition (rightField s) ≡ true → (0 < n) × (n ≤ 32))
-    → (isOperand (leftField s) ≡ true → Lettered a) → (isOperand (rightField s) ≡ true → Lettered b) → Lettered (formulaBy s n a b)
-letters-by none n a b f g h = tt
-letters-by (constant c) n a b f g h = tt
-letters-by (letter c) n a b f g h = f refl
-letters-by (unary o) n a b f g h = h refl
-letters-by (binary o) n a b f g h = (g refl, h refl)
-
-letters-plain : (p : Bool) (φ : Formula) → Lettered φ → Lettered (plain p φ)
-unfolding plain
-letters-plain p (const b) h = tt
-letters-plain p (lit b n) h = h
-letters-plain p (un next a) h = letters-plain p a h
-letters-plain p (un neg a) h = letters-plain (not p) a h
-letters-plain p (un finally a) h = (tt, letters-plain p a h)
-letters-plain p (un globally a) h = (tt, letters-plain p a h)
-letters-plain p (bin conj a b) h = (letters-plain p a (h .0), letters-plain p b (h .1))
-letters-plain p (bin disj a b) h = (letters-plain p a (h .0), letters-plain p b (h .1))
-letters-plain p (bin until a b) h = (letters-plain p a (h .0), letters-plain p b (h .1))
-letters-plain p (bin weak a b) h = (letters-plain p a (h .0), letters-plain p b (h .1))
-letters-plain p (bin release a b) h = (letters-plain p a (h .0), letters-plain p b (h .1))
-letters-plain p (bin strong a b) h = (letters-plain p a (h .0), letters-plain p b (h .1))
-letters-plain p (bin implies a b) h = (letters-plain (not p) a (h .0), letters-plain p b (h .1))
 
 -- a formula is one of the forms of the words of t; the forms of word 0, which stands for false, are the constants
 abbrev FormOf : List ℕ → Formula → Type 0
@@ -108,19 +86,7 @@ module _ (limit : ℕ) (t : List ℕ) (ok : checked false limit t ≡ Accepted) 
   unfolding formulaOf
   formula i h = accepted-formula (accepted-well-formed false limit t ok) i h
 
-  -- what holds of a word's formula once it holds of those of all earlier words
-  letters-step : (j : ℕ) → j ≤ length t → ((k : ℕ) → k < j → Lettered (formulaOf (formulas t) k)) → Lettered (formulaOf (formulas t) j)
-  unfolding formulaOf
-  letters-step zero l f = tt
-  letters-step (suc i) l f =
-      let w : ℕ = getD t i 0 in
-      let q = well-formed i l in
-      subst Lettered (sym (formula i l)) (
-      letters-by (shape (kind w)) (right w) (formulaOf (formulas t) (left w)) (formulaOf (formulas t) (right w)) (q .letter)
-      (λ e. f (left w) (q .operand-left e .1))
-      (λ e. f (right w) (q .operand-right e .1))
-      )
-
+  -- what holds of a word's forms once it holds of those of all earlier words
   operands-step : (p : Bool) (j : ℕ) → j ≤ length t → ((q : Bool) (k : ℕ) → k < j → Operands t (formOf q t k)) → Operands t (formOf p t j)
   unfolding formulaOf plain
   operands-step p zero l f = tt
@@ -133,10 +99,6 @@ module _ (limit : ℕ) (t : List ℕ) (ok : checked false limit t ≡ Accepted) 
       (λ e. omega (arith, q .operand-right e .1))
       (λ e. f (not p) (right w) (q .operand-right e .1))
       )
-
-  letters-to : (n j : ℕ) → j ≤ n → j ≤ length t → Lettered (formulaOf (formulas t) j)
-  letters-to zero j h l = letters-step j l (λ k g. absurd (omega arith))
-  letters-to (suc n) j h l = letters-step j l (λ k g. letters-to n k (omega arith) (omega arith))
 
   operands-to : (n : ℕ) (p : Bool) (j : ℕ) → j ≤ n → j ≤ length t → Operands t (formOf p t j)
   operands-to zero p j h l = operands-step p j l (λ q k g. absurd (omega arith))
@@ -158,7 +120,10 @@ module _ (limit : ℕ) (t : List ℕ) (ok : checked false limit t ≡ Accepted) 
   rule-form = refl
 
   letters : Lettered (plain true (rule t))
-  letters = rw rule-form (letters-plain true _ (letters-to limit t ok (length t) (length t) (omega arith) (omega arith)))
+  unfolding rule
+  letters =
+      let f = accepted-well-formed false limit t ok in
+      letters-plain (λ p. (0 < p) × (p ≤ 32)) true _ (formula-letters (λ p. (0 < p) × (p ≤ 32)) f (λ i h. f .word i h .letter) (length t) (omega arith))
 
   forms : Built (FormOf t) (plainTable t)
   unfolding plainTable
@@ -208,6 +173,10 @@ module _ (limit : ℕ) (t : List ℕ) (ok : checked false limit t ≡ Accepted) 
     -- over every lasso and at every position it holds exactly when the written rule does
     pub plain-holds : (r : Lasso) (i : ℕ) → Holds (word r) (rule (plainTable t)) i ↔ Holds (word r) (rule t) i
     plain-holds r i = rw plain-rule (duality.plain-holds r true (rule t) i)
+
+    -- what is so of every letter of the written rule is so of every letter of its plain form
+    pub plain-letters : (Q : ℕ → Type 0) → Letters Q (rule t) → Letters Q (rule (plainTable t))
+    plain-letters Q l = subst (Letters Q) (sym plain-rule) (letters-plain Q true (rule t) l)
 
 -- a slice of two words for each written one and two more is long enough, so the step answers the form and puts it at the front
 module _ (l : Limits) (small : l .written ≤ 8190) (t : List ℕ) (ok : checked false (l .written) t ≡ Accepted) (result : List ℕ) (long : 2 * length t + 2 ≤ length result) where

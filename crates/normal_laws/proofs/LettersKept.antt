@@ -8,7 +8,7 @@ use lib.ListN.{length}
 use Rattle.logic.specs.Formula.{Formula, Binary, const, lit, un, bin, conj, disj, until, weak, release, strong, implies, F, G}
 use Rattle.logic.specs.Rewriting.{steadyOp, steady, recurringOp, recurring, openingOp, opening}
 use Rattle.logic.specs.NormalForm.{isLeast, isGreatest, member, chosen, leastOf, greatestOf, part, choices, disjoin, normalForm}
-use Rattle.numbering.specs.Letters.{Letters}
+use Rattle.logic.specs.Letters.{Letters}
 use Rattle.logic.proofs.Normal.Membership.{mem-keep}
 use Rattle.normal_laws.proofs.Chosen.{mem-chosen}
 

@@ -1,32 +1,28 @@
 -- The formulas of an accepted plain table are the subformulas of its rule, and they are plain.
-use Prim.Native.Nat.{ℕ, zero, suc, _+_, _-_, _≤_, _<_}
+use Prim.Native.Nat.{ℕ, zero, suc, _-_, _≤_, _<_}
 use native.Mathlib.Omega.{arith}
-use native.Mathlib.Decide.{ℕ-discrete}
 use mathlib.Core.Path.{_≡_, refl, subst}
-use mathlib.Core.Logic.{_⊎_, inl, inr}
-use mathlib.Core.Bool.{Bool, true, false, _&&_, false≢true}
+use mathlib.Core.Bool.{Bool, true, false, _&&_}
 use mathlib.Core.List.{List, List·Memᴰ}
 use lib.ListN.{length, getD}
-use lib.Dec.{T, eqb}
-use borrow.Author.Tests.{eqb-true}
+use lib.Dec.{T}
 use Rattle.logic.specs.Formula.{Formula, Binary, const, next, neg, finally, globally, conj, disj, until, weak, release, strong, implies}
 use Rattle.logic.specs.NegationNormalForm.{isPlain, plainBinary}
 use Rattle.table.specs.Node.{Shape, none, constant, letter, unary, binary, kind, left, right, shape, kindOf, binaryKind, leftField, rightField}
 use Rattle.table.specs.Table.{formulas, formulaOf, formulaBy, rule}
 use Rattle.table.specs.Steps.{fixpoints}
-use Rattle.table.specs.Checks.{isOperand, isProposition, holdsLeft, holdsRight, uses}
+use Rattle.table.specs.Checks.{isOperand, isProposition}
 use Rattle.table.proofs.Accepted.{WellFormed, accepted-formula}
 use Rattle.table.proofs.Shapes.{kindOf-shape}
 use Rattle.table.proofs.Formulas.{length-formulas}
 use Rattle.numbering.specs.Held.{Held}
-use Rattle.numbering.specs.Letters.{Letters}
 use Rattle.numbering.proofs.Accepted.{Plain, plain-small}
 use Rattle.numbering.proofs.Building.{held-within}
 use Rattle.numbering.proofs.Formulas.{Ordered, held-formula}
-use Rattle.numbering.proofs.Used.{used-by, either}
+use Rattle.numbering.proofs.Subformulas.{word-sub}
 use Rattle.logic.specs.Subformula as subformula
 use Rattle.logic.specs.Subformula.{Sub, Numbers}
-use Rattle.logic.proofs.Normal.PlainFormula.{sub-trans}
+use Rattle.logic.proofs.Letters.{letters-sub}
 use Rattle.logic.proofs.Normal.Membership.{numbers-keep}
 use Rattle.normal_laws.proofs.Distinct.{formula-held}
 use Rattle.normal_laws.proofs.Chosen.{mem-place, mem-at}
@@ -58,33 +54,12 @@ plain-by (binary o) h k n a b l p q =
     plain-operator strong k = tt
     plain-operator implies k = absurd (omega arith)
 
--- an operand's formula is a subformula
-sub-left : (s : Shape) (n : ℕ) (a b : Formula) → isOperand (leftField s) ≡ true → Sub a (formulaBy s n a b)
-sub-left none n a b e = absurd (false≢true e)
-sub-left (constant c) n a b e = absurd (false≢true e)
-sub-left (letter c) n a b e = absurd (false≢true e)
-sub-left (unary o) n a b e = absurd (false≢true e)
-sub-left (binary o) n a b e = subformula.left subformula.self
-
-sub-right : (s : Shape) (n : ℕ) (a b : Formula) → isOperand (rightField s) ≡ true → Sub b (formulaBy s n a b)
-sub-right none n a b e = absurd (false≢true e)
-sub-right (constant c) n a b e = absurd (false≢true e)
-sub-right (letter c) n a b e = absurd (false≢true e)
-sub-right (unary o) n a b e = subformula.under subformula.self
-sub-right (binary o) n a b e = subformula.right subformula.self
-
 -- where a formula is held, so are its subformulas
 sub-held : (t : List ℕ) {ψ φ : Formula} → Sub ψ φ → (n : ℕ) → Held t φ n → (m : ℕ) × Held t ψ m
 sub-held t subformula.self n h = (n, h)
 sub-held t (subformula.under s) n h = sub-held t s (h .0) (h .1)
 sub-held t (subformula.left s) n h = sub-held t s (h .0) (h .2)
 sub-held t (subformula.right s) n h = sub-held t s (h .1) (h .3)
-
-pub letters-sub : (Q : ℕ → Type 0) {ψ φ : Formula} → Sub ψ φ → Letters Q φ → Letters Q ψ
-letters-sub Q subformula.self l = l
-letters-sub Q (subformula.under s) l = letters-sub Q s l
-letters-sub Q (subformula.left s) l = letters-sub Q s (l .0)
-letters-sub Q (subformula.right s) l = letters-sub Q s (l .1)
 
 module _ {limit : ℕ} {t : List ℕ} (small : limit ≤ 16383) (f : WellFormed true limit t) where
   -- every word's formula is plain
@@ -129,43 +104,12 @@ module _ {limit : ℕ} {t : List ℕ} (small : limit ≤ 16383) (f : WellFormed 
           held-formula t ordered (omega (arith, f .few)) ψ (suc i) (letters-sub (λ p. p < 16384) s (plain-small (rule t) (rule-plain .1))) x in
           subst (λ (χ : Formula). List·Memᴰ χ (formulas t)) e (mem-at (formulas t) i (omega (arith, length-formulas t, b .1)))
 
-  -- an operand's formula is a subformula of its word's
-  operand-sub : (i n : ℕ) → i < length t → uses n (getD t i 0) ≡ true → (n ≤ i) × Sub (formulaOf (formulas t) n) (formulaOf (formulas t) (suc i))
-  unfolding uses formulaOf
-  operand-sub i n h u = go (either (isOperand (holdsLeft w)) (eqb (left w) n) (isOperand (holdsRight w)) (eqb (right w) n) u)
-    where
-      w : ℕ
-      w = getD t i 0
-
-      go : ((isOperand (holdsLeft w) ≡ true) × (eqb (left w) n ≡ true)) ⊎ ((isOperand (holdsRight w) ≡ true) × (eqb (right w) n ≡ true))
-          → (n ≤ i) × Sub (formulaOf (formulas t) n) (getD (formulas t) i (const false))
-      go (inl x) =
-          let e : left w ≡ n = eqb-true (left w) n (x .1) in
-          (omega (arith, f .word i h .operand-left (x .0) .1), rw (← e, accepted-formula f i h) (sub-left (shape (kind w)) (right w) _ _ (x .0)))
-      go (inr x) =
-          let e : right w ≡ n = eqb-true (right w) n (x .1) in
-          (omega (arith, f .word i h .operand-right (x .0) .1), rw (← e, accepted-formula f i h) (sub-right (shape (kind w)) (right w) _ _ (x .0)))
-
-  -- every word's formula is a subformula of a later word's, up to the rule
-  word-sub : (k n : ℕ) → 0 < n → n ≤ length t → length t ≤ n + k → Sub (formulaOf (formulas t) n) (rule t)
-  unfolding rule
-  word-sub zero n p h e = let q : n ≡ length t = omega arith in rw q subformula.self
-  word-sub (suc k) n p h e = go (ℕ-discrete n (length t)) (word-sub k)
-    where
-      go : Dec (n ≡ length t) → ((m : ℕ) → 0 < m → m ≤ length t → length t ≤ m + k → Sub (formulaOf (formulas t) m) (formulaOf (formulas t) (length t)))
-          → Sub (formulaOf (formulas t) n) (formulaOf (formulas t) (length t))
-      go (yes q) r = rw q subformula.self
-      go (no q) r =
-          let u = used-by n t (f .all-used n p (omega (arith, q))) in
-          let s = operand-sub (u .0) n (u .1) (u .2) in
-          sub-trans (s .1) (r (suc (u .0)) (omega arith) (u .1) (omega (arith, s .0)))
-
   pub inside : (ψ : Formula) → List·Memᴰ ψ (formulas t) → Sub ψ (rule t)
   unfolding formulaOf
   inside ψ m =
       let p = mem-place m in
       let l : p .0 < length t = omega (arith, p .1, length-formulas t) in
-      subst (λ (χ : Formula). Sub χ (rule t)) (p .2) (word-sub (length t) (suc (p .0)) (omega arith) l (omega arith))
+      subst (λ (χ : Formula). Sub χ (rule t)) (p .2) (word-sub f (suc (p .0)) (omega arith) l)
 
   -- the until-like words number the fixpoint subformulas of the rule
   pub fixpoints-number : Numbers (fixpoints t) (rule t)

@@ -18,7 +18,7 @@ use Rattle.table.proofs.Fields.{kind-pack, left-pack, right-pack}
 use Rattle.table.proofs.Shapes.{shape-constant, shape-letter, shape-unary, shape-binary}
 use Rattle.table.proofs.Accepted.{WellFormedWord, none-occurs, well-formed-accepted}
 use Rattle.numbering.specs.Held.{Distinct}
-use Rattle.numbering.specs.Letters.{Letters}
+use Rattle.logic.specs.Letters.{Letters}
 use Rattle.numbering.proofs.Building.{tableOf-distinct, tableOf-long, held-within}
 use Rattle.numbering.proofs.Built.{Made, Hereditary, tableOf-built}
 use Rattle.numbering.proofs.Used.{tableOf-used}

@@ -15,7 +15,7 @@ use Rattle.table.specs.Numbering.{Placed, put, build, tableOf, constantWord, li
 use Rattle.table.proofs.Fields.{left-pack, right-pack}
 use Rattle.table.proofs.Shapes.{shape-constantWord, shape-literalWord, shape-unaryWord}
 use Rattle.numbering.specs.Held.{Held, Distinct}
-use Rattle.numbering.specs.Letters.{Letters}
+use Rattle.logic.specs.Letters.{Letters}
 use Rattle.numbering.proofs.Search.{Put, again, fresh, put-cases}
 use Rattle.numbering.proofs.Building.{held-more, held-within, build-const, build-lit, build-un, build-bin, build-held, held-grows, build-grows, held-build}
 use Rattle.numbering.proofs.Formulas.{Ordered}

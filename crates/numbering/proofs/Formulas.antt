@@ -12,7 +12,7 @@ use Rattle.table.specs.Table.{formulaOf, wordFormula, formulas}
 use Rattle.table.specs.Checks.{isOperand, holdsLeft, holdsRight}
 use Rattle.table.proofs.Formulas.{formula-of-word, wordFormula-constant, wordFormula-literal, wordFormula-unary, wordFormula-binary}
 use Rattle.numbering.specs.Held.{Word, Held}
-use Rattle.numbering.specs.Letters.{Letters}
+use Rattle.logic.specs.Letters.{Letters}
 use Rattle.numbering.proofs.Building.{held-within}
 
 -- operands are earlier words

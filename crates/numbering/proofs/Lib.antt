@@ -4,4 +4,6 @@ pub mod Building
 pub mod Formulas
 pub mod Built
 pub mod Used
+pub mod Subformulas
 pub mod Accepted
+pub mod Driven

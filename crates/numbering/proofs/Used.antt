@@ -19,7 +19,7 @@ use Rattle.table.proofs.Fields.{left-pack, right-pack}
 use Rattle.table.proofs.Shapes.{shape-unaryWord, shape-binaryWord}
 use Rattle.table.proofs.Accepted.{uses-used}
 use Rattle.numbering.specs.Held.{Word, Held}
-use Rattle.numbering.specs.Letters.{Letters}
+use Rattle.logic.specs.Letters.{Letters}
 use Rattle.numbering.proofs.Search.{Put, again, fresh, put-cases}
 use Rattle.numbering.proofs.Building.{Grows, grows-length, put-grows, put-word, build-grows, build-held, build-un, build-bin, build-const, build-lit, build-length, held-within}
 use Rattle.numbering.proofs.Formulas.{Ordered, held-formula}

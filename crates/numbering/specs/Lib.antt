@@ -1,3 +1,2 @@
 -- What a table that is being built holds.
 pub mod Held
-pub mod Letters

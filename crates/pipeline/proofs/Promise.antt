@@ -8,6 +8,8 @@ use native.Mathlib.Omega.{arith}
 use native.Mathlib.Nat.{sub-zero}
 use lib.ListN.{length, take, drop}
 use borrow.Author.Tests.{leb-true}
+use Rattle.logic.specs.Letters.{Letters}
+use Rattle.logic.specs.Driven.{Driven}
 use Rattle.table.specs.declared.refusal.Refusal.{Refusal}
 use Rattle.table.specs.declared.refusal.Refusal.the-variants.{ResultTooShort}
 use Rattle.table.specs.declared.refusal.Outcome.{Outcome}
@@ -16,16 +18,19 @@ use Rattle.table.specs.declared.answer.Answer.{Answer}
 use Rattle.table.specs.declared.answer.Answer.the-variants.{Made, Refused}
 use Rattle.table.specs.declared.limits.Limits.{Limits}
 use Rattle.table.specs.Refusals.{first, numberOf}
-use Rattle.table.specs.Limits.{plainLimit}
+use Rattle.table.specs.Limits.{plainLimit, mostWords}
 use Rattle.table.specs.Checks.{tableChecks, checked}
 use Rattle.table.specs.Numbering.{room, fits}
 use Rattle.table.specs.StepChecks.{fixpointChecks}
+use Rattle.table.specs.Table.{rule}
 use Rattle.table.specs.Steps.{plainTable, normalTable}
 use Rattle.table.specs.Frame.{plainStep, normalStep, answerOf, resultOf, answerNumber}
 use Rattle.table.proofs.First.{first-append-accepted, first-append-refused, first-append-both}
+use Rattle.table.proofs.Accepted.{accepted-well-formed}
+use Rattle.numbering.proofs.Driven.{driven-exactly}
 use Rattle.table.proofs.Frame.{Answered, answered, refused-for-length, refused-answer, too-long-answer, made-answer, plain-early, normal-early}
-use Rattle.nnf.proofs.Promise.{plain-holds, plain-accepted}
-use Rattle.normal_laws.proofs.Promise.{normal-holds, normal-Δ₂, normal-length}
+use Rattle.nnf.proofs.Promise.{plain-holds, plain-accepted, plain-letters}
+use Rattle.normal_laws.proofs.Promise.{normal-holds, normal-Δ₂, normal-length, normal-letters, normal-accepted}
 use Rattle.pipeline.specs.Whole.{answerAfter, wholeAnswer, resultAfter, wholeResult}
 use Rattle.pipeline.specs.Claim.{Kept, TooLong, Claim}
 
@@ -58,6 +63,11 @@ module _ (l : Limits) (small : l .written ≤ 8190) (t plain form : List ℕ) wh
   unfolding wholeAnswer wholeResult
   whole-made n e = (ap (λ (a : Answer). answerAfter a l t (length form)) e, ap (λ (a : Answer). resultAfter a l t form) e)
 
+  -- what is so of every letter of the written rule is so of every letter of the form
+  kept-letters : (Q : ℕ → Type 0) → checked true (plainLimit l) (plainTable t) ≡ outcome.Accepted → checked false (l .written) t ≡ outcome.Accepted
+      → length (normalTable (plainTable t)) ≤ 16383 → Letters Q (rule t) → Letters Q (rule (normalTable (plainTable t)))
+  kept-letters Q ok accepted few h = normal-letters (plainLimit l) (plainTable t) ok (omega arith) few Q (plain-letters (l .written) t accepted small Q h)
+
   -- an answered form
   kept : (n : ℕ) → wholeAnswer l t (length plain) (length form) ≡ Made n → Kept t (wholeResult l t (length plain) form) n
   unfolding checked
@@ -73,9 +83,16 @@ module _ (l : Limits) (small : l .written ≤ 8190) (t plain form : List ℕ) wh
           let w : take n (wholeResult l t (length plain) form) ≡ normalTable (plainTable t) = rw (whole-made m e .1) (q .front) in
           record {
             words = w;
-            holds = λ r i. rw w (Iff·trans (normal-holds (plainLimit l) (plainTable t) ok (omega arith) few r i) (plain-holds (l .written) t (p .accepted) small r i));
+            holds = λ r d i. rw w (Iff·trans (normal-holds (plainLimit l) (plainTable t) ok (omega arith) few r i) (plain-holds (l .written) t (p .accepted) small r i));
             class = rw w (normal-Δ₂ (plainLimit l) (plainTable t) ok (omega arith) few);
             short = rw (q .long) (normal-length (plainLimit l) (plainTable t) ok (omega arith));
+            letters = λ m. rw w (kept-letters (λ n. n ≡ m → ⊥) ok (p .accepted) few);
+            drives = λ r. rw w (kept-letters (Driven (r .driven)) ok (p .accepted) few);
+            accepted = rw w (normal-accepted (plainLimit l) (plainTable t) ok (omega arith) few);
+            driven = λ k e.
+                let source = accepted-well-formed false (l .written) t (p .accepted) in
+                let form = accepted-well-formed false mostWords (normalTable (plainTable t)) (normal-accepted (plainLimit l) (plainTable t) ok (omega arith) few) in
+                rw w (driven-exactly form k .1 (kept-letters (Driven k) ok (p .accepted) few (driven-exactly source k .0 e)));
           }
 
   -- to refuse for length is to answer 12

@@ -5,7 +5,9 @@ use mathlib.Core.Logic.{_↔_, _⊎_}
 use mathlib.Core.Bool.{true, false}
 use mathlib.Core.List.{List, _++_}
 use lib.ListN.{length, take}
+use Rattle.logic.specs.Letters.{Lacks}
 use Rattle.logic.specs.Lasso.{Lasso, word}
+use Rattle.logic.specs.Driven.{Drives}
 use Rattle.logic.specs.Semantics.{Holds}
 use Rattle.logic.specs.Hierarchy.{Δ₂}
 use Rattle.table.specs.declared.refusal.Refusal.{Refusal}
@@ -15,8 +17,9 @@ use Rattle.table.specs.declared.answer.Answer.the-variants.{Made, Refused}
 use Rattle.table.specs.declared.limits.Limits.{Limits}
 use Rattle.table.specs.Refusals.{first, numberOf}
 use Rattle.table.specs.Checks.{tableChecks, checked}
+use Rattle.table.specs.Limits.{mostWords}
 use Rattle.table.specs.Numbering.{fits}
-use Rattle.table.specs.StepChecks.{fixpointChecks}
+use Rattle.table.specs.StepChecks.{fixpointChecks, letterChecks}
 use Rattle.table.specs.Table.{rule}
 use Rattle.table.specs.Steps.{plainTable, fixpoints, normalTable}
 use Rattle.table.specs.Frame.{plainStep, resultOf, answerNumber}
@@ -26,13 +29,19 @@ use Rattle.pipeline.specs.Whole.{wholeAnswer, wholeResult}
 abbrev pub bound : ℕ → ℕ → ℕ
 bound n k = 2 ^ k * (5 * n + 3 * k + 1) + 2
 
--- the n words at the front of a slice are the form of a written table: the defined words; they hold at every position of every lasso where the
--- written rule does; they lie in Delta-2; and they are no more than the bound
+-- the n words at the front of a slice are the form of a written table: the defined words; they hold at every position of every lasso that drives
+-- the rule's letters where the written rule does; they lie in Delta-2; they are no more than the bound; they name no letter that the rule lacks,
+-- so every lasso that drives the rule's letters drives theirs; and so the judge accepts them wherever it accepts the written table: by 1 to 10, and
+-- by 21 for every driven count
 pub record Kept (t form : List ℕ) (n : ℕ) : Type 0 where
   pub words : take n form ≡ normalTable (plainTable t)
-  pub holds : (r : Lasso) (i : ℕ) → Holds (word r) (rule (take n form)) i ↔ Holds (word r) (rule t) i
+  pub holds : (r : Lasso) → Drives r (rule t) → (i : ℕ) → Holds (word r) (rule (take n form)) i ↔ Holds (word r) (rule t) i
   pub class : Δ₂ (rule (take n form))
   pub short : n ≤ bound (length (plainTable t)) (length (fixpoints (plainTable t)))
+  pub letters : (m : ℕ) → Lacks m (rule t) → Lacks m (rule (take n form))
+  pub drives : (r : Lasso) → Drives r (rule t) → Drives r (rule (take n form))
+  pub accepted : checked false mostWords (take n form) ≡ outcome.Accepted
+  pub driven : (k : ℕ) → first (letterChecks k 1 t) ≡ outcome.Accepted → first (letterChecks k 1 (take n form)) ≡ outcome.Accepted
 
 -- the plain form does not fit its slice; or it does, 11 passes, and the normal form does not fit its own
 abbrev pub TooLong : Limits → List ℕ → ℕ → ℕ → Type 0

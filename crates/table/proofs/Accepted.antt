@@ -38,11 +38,11 @@ pub record WellFormed (plainOnly : Bool) (limit : ℕ) (t : List ℕ) : Type 0 w
   pub all-used : (n : ℕ) → 0 < n → n < length t → used n t ≡ true
 
 -- a conjunction is false where its second part is, whenever the first is true
-and-false : (a b : Bool) → (a ≡ true → b ≡ false) → (a && b) ≡ false
+pub and-false : (a b : Bool) → (a ≡ true → b ≡ false) → (a && b) ≡ false
 and-false true b h = h refl
 and-false false b h = refl
 
-and-false-second : (a b : Bool) → (a && b) ≡ false → a ≡ true → b ≡ false
+pub and-false-second : (a b : Bool) → (a && b) ≡ false → a ≡ true → b ≡ false
 and-false-second true b h e = h
 and-false-second false b h e = cc
 

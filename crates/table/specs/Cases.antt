@@ -4,6 +4,7 @@ use mathlib.Core.Path.{_≡_}
 use mathlib.Core.Bool.{Bool, true, false}
 use mathlib.Core.List.{List, [], _∷_}
 use mathlib.Core.Logic.{_↔_}
+use native.Mathlib.Nat.{le-refl}
 use lib.ListN.{length, getD}
 use lib.Dec.{T, lit<}
 use Rattle.logic.specs.Lasso.{Lasso, word}
@@ -42,12 +43,12 @@ Right (refused t n p) = IsRefusal (checked false 64 t) n p
 Right (class t b) = classByte (rule t) ≡ b
 Right (judged t r bs) = (i : ℕ) → i < length bs → Holds (word r) (rule t) i ↔ T (getD bs i false)
 
--- a recording of two samples, looped at the second; and one sample for ever
+-- a recording of two samples, looped at the second; and one sample for ever; both drive all 32 letters
 abbrev pub twice : ℕ → ℕ → Lasso
-twice a b = record { samples = a ∷ b ∷ []; start = 1; inside = lit< tt }
+twice a b = record { samples = a ∷ b ∷ []; start = 1; driven = 32; inside = lit< tt; few = le-refl 32 }
 
 abbrev pub once : ℕ → Lasso
-once a = record { samples = a ∷ []; start = 0; inside = lit< tt }
+once a = record { samples = a ∷ []; start = 0; driven = 32; inside = lit< tt; few = le-refl 32 }
 
 abbrev pub starred : List Case
 starred =

@@ -3,7 +3,7 @@ use Prim.Native.Nat.{ℕ}
 use mathlib.Core.Bool.{Bool, true, false}
 use mathlib.Core.List.{List, [], _∷_}
 use Rattle.table.specs.declared.refusal.Refusal.{Refusal}
-use Rattle.table.specs.declared.refusal.Refusal.the-variants.{NoWord, TooManyWords, KindZero, NotPlain, OperandZero, OperandNotEarlier, LetterOutOfRange, FieldNotZero, Repeated, Unused, TooManyFixpoints, ResultTooShort, NoSample, TooManySamples, LoopStartOutside, ScratchTooShort, TallyFull, NotWords, NotGrammar, TextTooLong}
+use Rattle.table.specs.declared.refusal.Refusal.the-variants.{NoWord, TooManyWords, KindZero, NotPlain, OperandZero, OperandNotEarlier, LetterOutOfRange, FieldNotZero, Repeated, Unused, TooManyFixpoints, ResultTooShort, NoSample, TooManySamples, LoopStartOutside, ScratchTooShort, TallyFull, NotWords, NotGrammar, TextTooLong, LetterNotDriven, TooManyDriven}
 use Rattle.table.specs.declared.refusal.Report.{Report}
 use Rattle.table.specs.declared.refusal.Outcome.{Outcome}
 use Rattle.table.specs.declared.refusal.Outcome.the-variants.{Accepted, Refused}
@@ -15,7 +15,7 @@ whole n = record { 0 = n; 1 = 0 }
 abbrev at : ℕ → ℕ → Report
 at n word = record { 0 = n; 1 = word }
 
--- the place is the number of the faulty word for 3 to 11, that of the faulty byte for 19, and 0 otherwise
+-- the place is the number of the faulty word for 3 to 11 and 21, that of the faulty byte for 19, and 0 otherwise
 abbrev pub reportOf : Refusal → Report
 reportOf NoWord = whole 1
 reportOf TooManyWords = whole 2
@@ -37,6 +37,8 @@ reportOf TallyFull = whole 17
 reportOf NotWords = whole 18
 reportOf (NotGrammar byte) = at 19 byte
 reportOf TextTooLong = whole 20
+reportOf (LetterNotDriven word) = at 21 word
+reportOf TooManyDriven = whole 22
 
 abbrev pub numberOf : Refusal → ℕ
 numberOf r = reportOf r .0

@@ -1,11 +1,13 @@
--- The checks that stand beside those of a table: 18 of a program's input, 11 of a plain table, 12 of a result. The judge's, 13 to 17, stand with the judge.
+-- The checks that stand beside those of a table: 18 of a program's input, 11 of a plain table, 12 of a result, 22 and 21 of the letters that are driven.
+-- The judge's, 13 to 17, stand with the judge.
 use Prim.Native.Nat.{ℕ, zero, suc, _%_}
 use mathlib.Core.Bool.{Bool, not, _&&_, cond}
 use mathlib.Core.List.{List, [], _∷_}
-use lib.Dec.{leb, eqb}
-use Rattle.table.specs.declared.refusal.Refusal.the-variants.{TooManyFixpoints, ResultTooShort, NotWords}
+use lib.Dec.{ltb, leb, eqb}
+use Rattle.table.specs.declared.refusal.Refusal.the-variants.{TooManyFixpoints, ResultTooShort, NotWords, LetterNotDriven, TooManyDriven}
 use Rattle.table.specs.Refusals.{Check, _⇒_}
-use Rattle.table.specs.Node.{kind}
+use Rattle.table.specs.Node.{kind, right}
+use Rattle.table.specs.Checks.{isProposition, holdsRight}
 use Rattle.table.specs.Numbering.{fits}
 
 -- kinds 8 to 11, the until-like words
@@ -25,3 +27,16 @@ unfoldable pub fixpointChecks : ℕ → ℕ → List ℕ → List Check
 fixpointChecks limit n [] = []
 fixpointChecks zero n (w ∷ ws) = (isFixpointWord w ⇒ TooManyFixpoints n) ∷ fixpointChecks zero (suc n) ws
 fixpointChecks (suc limit) n (w ∷ ws) = cond (isFixpointWord w) (fixpointChecks limit (suc n) ws) (fixpointChecks (suc limit) (suc n) ws)
+
+-- 22: a driven count over 32
+unfoldable pub drivenChecks : ℕ → List Check
+drivenChecks driven = (ltb 32 driven ⇒ TooManyDriven) ∷ []
+
+-- a word names a letter above the driven count
+abbrev pub isUndriven : ℕ → ℕ → Bool
+isUndriven driven w = isProposition (holdsRight w) && ltb driven (right w)
+
+-- 21: each such word; words are numbered from n on
+unfoldable pub letterChecks : ℕ → ℕ → List ℕ → List Check
+letterChecks driven n [] = []
+letterChecks driven n (w ∷ ws) = (isUndriven driven w ⇒ LetterNotDriven n) ∷ letterChecks driven (suc n) ws

@@ -23,6 +23,8 @@ pub enum Refusal {
     NotWords,
     NotGrammar(usize),
     TextTooLong,
+    LetterNotDriven(usize),
+    TooManyDriven,
 }
 
 // A step that has nothing to say when it is accepted.
@@ -58,6 +60,8 @@ pub fn report_of(r: Refusal) -> Report
         Refusal::NotWords => Report(18, 0),
         Refusal::NotGrammar(n) => Report(19, n),
         Refusal::TextTooLong => Report(20, 0),
+        Refusal::LetterNotDriven(n) => Report(21, n),
+        Refusal::TooManyDriven => Report(22, 0),
     }
 }
 

@@ -18,7 +18,7 @@ use Rattle.table.specs.Limits.{desk}
 use Rattle.table.specs.Checks.{checked}
 use Rattle.table.specs.Numbering.{tableOf}
 use Rattle.table.specs.Frame.{answerOf, resultOf}
-use Rattle.numbering.specs.Letters.{Letters}
+use Rattle.logic.specs.Letters.{Letters}
 use Rattle.numbering.proofs.Accepted.{accepted-written}
 use Rattle.grammar.specs.Grammar.{Symbol, Rule, constant-rule, letter-rule, prefixed, bracketed, Reads, Departs}
 use Rattle.grammar.specs.Reader.{readingOf, departureOf}

@@ -41,6 +41,8 @@ pub fn with_table(numbers: &mut Numbers, table: Vec<u32>) -> Input {
         form_plain: if numbers.once_in(6) { room(numbers, plain.len()) } else { 130 },
         form: room(numbers, form),
         start: start(numbers, samples.len()),
+        driven: driven(numbers, &table),
+        undriven: numbers.next() as u32,
         samples,
         scratch: room(numbers, rows),
         judged,
@@ -244,6 +246,21 @@ fn start(numbers: &mut Numbers, samples: usize) -> usize {
         2 => 0,
         3 if numbers.once_in(4) => numbers.next() as usize,
         _ => numbers.below(samples.max(1)),
+    }
+}
+
+/// Mostly as many letters as the table names or more; else one too few, over 32, or any number.
+fn driven(numbers: &mut Numbers, table: &[u32]) -> usize {
+    let letters = table.iter().map(|&bits| Word::of(bits)).filter(|word| matches!(word.kind, 3 | 4)).map(|word| word.right);
+    let highest = letters.filter(|&letter| letter <= 32).max().unwrap_or(0);
+    match numbers.below(16) {
+        0 | 1 => highest.saturating_sub(1),
+        2 => numbers.between(0, 33),
+        3 => 33,
+        4 if numbers.once_in(4) => numbers.next() as usize,
+        5..=7 => highest,
+        8 => 0,
+        _ => numbers.between(highest, 32),
     }
 }
 

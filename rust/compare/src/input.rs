@@ -1,4 +1,5 @@
 //! One input of every step: a text, a table, a recording, a tally, and the rooms of the slices that are lent.
+use reference::recording::Recording;
 use std::fmt;
 
 #[derive(Clone, PartialEq, Eq, Debug)]
@@ -20,19 +21,37 @@ pub struct Input {
     /// Of the judge and the row call.
     pub samples: Vec<u32>,
     pub start: usize,
+    pub driven: usize,
+    /// The bits of the samples above the driven ones, in a second call that must answer the same.
+    pub undriven: u32,
     pub scratch: usize,
     pub judged: u32,
     pub held: u32,
 }
 
 impl Input {
+    pub fn recording(&self) -> Recording<'_> {
+        Recording { samples: &self.samples, start: self.start, driven: self.driven }
+    }
+
+    /// The samples with other bits above the driven ones.
+    pub fn redriven(&self) -> Vec<u32> {
+        let above = if self.driven < 32 { u32::MAX << self.driven } else { 0 };
+        let other = |i: u32| self.undriven.rotate_left(i % 32) & above;
+        (0..).zip(&self.samples).map(|(i, &sample)| sample & !above | other(i)).collect()
+    }
+
     /// What shrinking makes smaller.
     pub fn size(&self) -> (usize, usize, usize, u64) {
         let rooms = self.text_table + self.bytes + self.plain + self.normal + self.form_plain + self.form + self.scratch;
         let words: u64 = self.table.iter().map(|&w| w as u64).sum::<u64>() + self.text.iter().map(|&b| b as u64).sum::<u64>();
-        let rest =
-            self.start as u64 + self.judged as u64 + self.held as u64 + self.limit.min(1 << 40) as u64 + self.plain_only as u64;
-        let bits: u64 = self.samples.iter().map(|s| s.count_ones() as u64).sum();
+        let rest = self.start as u64
+            + self.driven.min(1 << 40) as u64
+            + self.judged as u64
+            + self.held as u64
+            + self.limit.min(1 << 40) as u64
+            + self.plain_only as u64;
+        let bits: u64 = self.samples.iter().chain([&self.undriven]).map(|s| s.count_ones() as u64).sum();
         (self.text.len() + self.table.len() + self.samples.len(), self.table.len(), rooms, words + rest + bits)
     }
 }
@@ -48,7 +67,9 @@ impl fmt::Display for Input {
             "rooms: bytes {}, plain {}, normal {}, whole way {} and {}, scratch {}",
             self.bytes, self.plain, self.normal, self.form_plain, self.form, self.scratch
         )?;
-        writeln!(f, "recording of {} samples, loop start {}:{}", self.samples.len(), self.start, hex(&self.samples))?;
+        let (samples, start, driven) = (self.samples.len(), self.start, self.driven);
+        writeln!(f, "recording of {samples} samples, loop start {start}, {driven} letters driven:{}", hex(&self.samples))?;
+        writeln!(f, "bits above the driven ones in a second call: {:08X}", self.undriven)?;
         write!(f, "tally: judged {}, held {}", self.judged, self.held)
     }
 }

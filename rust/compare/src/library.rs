@@ -1,5 +1,6 @@
 //! The calls of `include/showrule.h`, answered by the proved library and by the reference.
 use reference::checks::Refusal;
+use reference::recording::Recording;
 use reference::steps;
 use reference::word::Word;
 use showrule::ffi;
@@ -23,14 +24,11 @@ pub trait Library {
     fn plain(&self, table: &[u32], result: &mut [u32], words: &mut usize, place: &mut usize) -> u32;
     fn normal(&self, table: &[u32], result: &mut [u32], words: &mut usize, place: &mut usize) -> u32;
     fn form(&self, table: &[u32], plain: &mut [u32], result: &mut [u32], words: &mut usize, place: &mut usize) -> u32;
-    fn judge(&self, table: &[u32], samples: &[u32], start: usize, scratch: &mut [u64], lent: &mut Lent, place: &mut usize)
-        -> u32;
-    #[allow(clippy::too_many_arguments)]
+    fn judge(&self, table: &[u32], recording: Recording, scratch: &mut [u64], lent: &mut Lent, place: &mut usize) -> u32;
     fn row(
         &self,
         table: &[u32],
-        samples: &[u32],
-        start: usize,
+        recording: Recording,
         scratch: &mut [u64],
         from: &mut usize,
         words: &mut usize,
@@ -66,22 +64,15 @@ impl Library for Product {
         unsafe { ffi::showrule_form(table.as_ptr(), table.len(), p, plain.len(), r, result.len(), words, place) }
     }
 
-    fn judge(
-        &self,
-        table: &[u32],
-        samples: &[u32],
-        start: usize,
-        scratch: &mut [u64],
-        lent: &mut Lent,
-        place: &mut usize,
-    ) -> u32 {
+    fn judge(&self, table: &[u32], recording: Recording, scratch: &mut [u64], lent: &mut Lent, place: &mut usize) -> u32 {
         unsafe {
             ffi::showrule_judge(
                 table.as_ptr(),
                 table.len(),
-                samples.as_ptr(),
-                samples.len(),
-                start,
+                recording.samples.as_ptr(),
+                recording.samples.len(),
+                recording.start,
+                recording.driven,
                 scratch.as_mut_ptr(),
                 scratch.len(),
                 &mut lent.judged,
@@ -97,17 +88,16 @@ impl Library for Product {
     fn row(
         &self,
         table: &[u32],
-        samples: &[u32],
-        start: usize,
+        recording: Recording,
         scratch: &mut [u64],
         from: &mut usize,
         words: &mut usize,
         place: &mut usize,
     ) -> u32 {
-        let (s, room) = (scratch.as_mut_ptr(), scratch.len());
-        unsafe {
-            ffi::showrule_row(table.as_ptr(), table.len(), samples.as_ptr(), samples.len(), start, s, room, from, words, place)
-        }
+        let (t, s) = (table.as_ptr(), scratch.as_mut_ptr());
+        let Recording { samples, start, driven } = recording;
+        let (n, count, room) = (table.len(), samples.len(), scratch.len());
+        unsafe { ffi::showrule_row(t, n, samples.as_ptr(), count, start, driven, s, room, from, words, place) }
     }
 }
 
@@ -176,17 +166,9 @@ impl Library for Reference {
         words_told(made.and_then(|n| steps::write(self.normal_form(&plain[..n]), result)), words, place)
     }
 
-    fn judge(
-        &self,
-        table: &[u32],
-        samples: &[u32],
-        start: usize,
-        scratch: &mut [u64],
-        lent: &mut Lent,
-        place: &mut usize,
-    ) -> u32 {
+    fn judge(&self, table: &[u32], recording: Recording, scratch: &mut [u64], lent: &mut Lent, place: &mut usize) -> u32 {
         let mut tally = steps::Tally { judged: lent.judged, held: lent.held };
-        let (number, judged) = told(steps::judge(table, samples, start, scratch, &mut tally), place);
+        let (number, judged) = told(steps::judge(table, recording, scratch, &mut tally), place);
         let judgement = judged.unwrap_or(steps::Judgement { holds: false, moments: 0, failing: 0 });
         *lent = Lent {
             judged: tally.judged,
@@ -201,14 +183,13 @@ impl Library for Reference {
     fn row(
         &self,
         table: &[u32],
-        samples: &[u32],
-        start: usize,
+        recording: Recording,
         scratch: &mut [u64],
         from: &mut usize,
         words: &mut usize,
         place: &mut usize,
     ) -> u32 {
-        let (number, part) = told(steps::row(table, samples, start, scratch), place);
+        let (number, part) = told(steps::row(table, recording, scratch), place);
         let part = part.unwrap_or(0..0);
         (*from, *words) = (part.start, part.len());
         number

@@ -3,6 +3,7 @@ use crate::input::Input;
 use crate::library::{Lent, Library};
 use reference::forest::Forest;
 use reference::listing::bits;
+use reference::recording::Recording;
 use reference::steps::check as checked;
 use reference::text::{show, shown_bytes};
 use std::fmt;
@@ -63,8 +64,8 @@ fn seen(library: &dyn Library, input: &Input) -> Vec<Seen> {
         plain(library, input),
         normal(library, input),
         form(library, input),
-        judge(library, input),
-        row(library, input),
+        judge(library, input, "judge", input.recording()),
+        row(library, input, "row", input.recording()),
     ]
 }
 
@@ -111,22 +112,21 @@ fn form(library: &dyn Library, input: &Input) -> Seen {
     Seen { step: "whole way", number, lent: vec![made as u64, place as u64], memory }
 }
 
-fn judge(library: &dyn Library, input: &Input) -> Seen {
+fn judge(library: &dyn Library, input: &Input, step: &'static str, recording: Recording) -> Seen {
     let mut scratch = Memory::new(input.scratch, |x| x);
     let mut place = BEFORE;
     let mut lent = Lent { judged: input.judged, held: input.held, holds: true, moments: BEFORE, failing: BEFORE };
-    let number = library.judge(&input.table, &input.samples, input.start, scratch.slice(), &mut lent, &mut place);
+    let number = library.judge(&input.table, recording, scratch.slice(), &mut lent, &mut place);
     let lent =
         vec![lent.judged.into(), lent.held.into(), lent.holds.into(), lent.moments as u64, lent.failing as u64, place as u64];
-    Seen { step: "judge", number, lent, memory: held(&scratch) }
+    Seen { step, number, lent, memory: held(&scratch) }
 }
 
-fn row(library: &dyn Library, input: &Input) -> Seen {
+fn row(library: &dyn Library, input: &Input, step: &'static str, recording: Recording) -> Seen {
     let mut scratch = Memory::new(input.scratch, |x| x);
     let (mut from, mut long, mut place) = (BEFORE, BEFORE, BEFORE);
-    let (samples, start) = (&input.samples, input.start);
-    let number = library.row(&input.table, samples, start, scratch.slice(), &mut from, &mut long, &mut place);
-    Seen { step: "row", number, lent: vec![from as u64, long as u64, place as u64], memory: held(&scratch) }
+    let number = library.row(&input.table, recording, scratch.slice(), &mut from, &mut long, &mut place);
+    Seen { step, number, lent: vec![from as u64, long as u64, place as u64], memory: held(&scratch) }
 }
 
 /// Demand 3, tried: whether the library's form of the rule holds where the rule does, and is in Delta-2, by its own judge and classes.
@@ -135,20 +135,41 @@ fn agreement(library: &dyn Library, input: &Input) -> Seen {
     let (mut made, mut place) = (0, 0);
     let mut lent = AGREED.to_vec();
     let form_made = library.form(&input.table, &mut plain, &mut result, &mut made, &mut place) == 0;
-    if form_made && !input.samples.is_empty() && made * input.samples.len() < 400_000 {
+    if form_made && (1..=4_096).contains(&input.samples.len()) && made * input.samples.len() < 400_000 {
         let start = input.start % input.samples.len();
+        // the recording drives every letter of the rule, and no other where the count is below
+        let driven = input.driven.min(32).max(highest_letter(&input.table));
         let mut bytes = vec![0; made];
         library.classify(&result[..made], &mut bytes, &mut place);
         let of = |table: &[u32]| {
             let mut scratch = vec![0; table.len() * input.samples.len().div_ceil(64)];
             let (mut from, mut long, mut place) = (0, 0, 0);
-            library.row(table, &input.samples, start, &mut scratch, &mut from, &mut long, &mut place);
-            scratch[from..from + long].to_vec()
+            let recording = Recording { samples: &input.samples, start, driven };
+            let number = library.row(table, recording, &mut scratch, &mut from, &mut long, &mut place);
+            (number, scratch[from..from + long].to_vec())
         };
-        lent = vec![(of(&input.table) == of(&result[..made])) as u64, (bytes[made - 1] >> 6 & 1).into()];
+        let (rule, form) = (of(&input.table), of(&result[..made]));
+        lent = vec![(rule == form && rule.0 == 0) as u64, (bytes[made - 1] >> 6 & 1).into()];
     }
     Seen { step: AGREEMENT, number: 0, lent, memory: vec![] }
 }
+
+fn highest_letter(table: &[u32]) -> usize {
+    let letters = table.iter().filter(|&word| matches!(word >> 28, 3 | 4));
+    letters.map(|word| (word & 0x3FFF) as usize).max().unwrap_or(0)
+}
+
+/// The judge and the row call over samples that differ above the driven bits alone: they answer and leave what they did before.
+fn redriven(library: &dyn Library, input: &Input) -> [(Seen, Seen); 2] {
+    let samples = input.redriven();
+    let other = Recording { samples: &samples, ..input.recording() };
+    [
+        (judge(library, input, REDRIVEN[0], other), judge(library, input, REDRIVEN[0], input.recording())),
+        (row(library, input, REDRIVEN[1], other), row(library, input, REDRIVEN[1], input.recording())),
+    ]
+}
+
+const REDRIVEN: [&str; 2] = ["judge, other bits above the driven ones", "row, other bits above the driven ones"];
 
 /// A written table printed as text, and that text read: whether it is printed as the reference prints it, whether the table comes back
 /// in first-need order (unless it has kind 4, which is read as two words), and whether both have the same form.
@@ -194,7 +215,7 @@ pub fn compare(
     let agreed = Seen { step: AGREEMENT, number: 0, lent: AGREED.to_vec(), memory: vec![] };
     let came_back = Seen { step: ROUND_TRIP, number: 0, lent: CAME_BACK.to_vec(), memory: vec![] };
     let of_product = [(agreement(product, input), agreed), (round_trip(product, input), came_back)];
-    let steps = seen(product, input).into_iter().zip(seen(reference, input)).chain(of_product);
+    let steps = seen(product, input).into_iter().zip(seen(reference, input)).chain(of_product).chain(redriven(product, input));
     let same = |(product, reference): (Seen, Seen)| {
         if product == reference {
             Ok((product.step, product.number))

@@ -55,6 +55,11 @@ fn candidates(input: &Input) -> Vec<Input> {
     }
     with(&|i| i.start = 0);
     with(&|i| i.start = i.start.saturating_sub(1));
+    with(&|i| i.driven = 0);
+    with(&|i| i.driven = i.driven.min(33));
+    with(&|i| i.driven = i.driven.saturating_sub(1));
+    with(&|i| i.undriven = 0);
+    with(&|i| i.undriven &= i.undriven.wrapping_sub(1));
     for room in ROOMS {
         with(&|i| *room(i) = 0);
         with(&|i| *room(i) /= 2);

@@ -5,6 +5,7 @@ use crate::library::{Lent, Library, Reference};
 use crate::numbers::Numbers;
 use crate::run::compare;
 use crate::smallest_difference;
+use reference::recording::Recording;
 
 /// The reference with one fault.
 struct Faulty {
@@ -22,6 +23,9 @@ enum Fault {
     GuardWritten,
     TextPlaceLate,
     WordsBeforeGrammar,
+    HighestUndriven,
+    UndrivenRead,
+    UndrivenCounted,
 }
 
 impl Library for Faulty {
@@ -76,19 +80,15 @@ impl Library for Faulty {
         self.right.form(table, plain, result, words, place)
     }
 
-    fn judge(
-        &self,
-        table: &[u32],
-        samples: &[u32],
-        start: usize,
-        scratch: &mut [u64],
-        lent: &mut Lent,
-        place: &mut usize,
-    ) -> u32 {
+    fn judge(&self, table: &[u32], recording: Recording, scratch: &mut [u64], lent: &mut Lent, place: &mut usize) -> u32 {
         let held = lent.held;
-        let number = self.right.judge(table, samples, start, scratch, lent, place);
+        let number = self.right.judge(table, recording, scratch, lent, place);
         if self.fault == Fault::HeldForgotten {
             lent.held = held;
+        }
+        if self.fault == Fault::HighestUndriven && number == 21 {
+            let names = |&n: &usize| matches!(table[n - 1] >> 28, 3 | 4) && (table[n - 1] & 0x3FFF) as usize > recording.driven;
+            *place = (1..=table.len()).rev().find(names).unwrap();
         }
         number
     }
@@ -96,16 +96,23 @@ impl Library for Faulty {
     fn row(
         &self,
         table: &[u32],
-        samples: &[u32],
-        start: usize,
+        recording: Recording,
         scratch: &mut [u64],
         from: &mut usize,
         words: &mut usize,
         place: &mut usize,
     ) -> u32 {
-        let number = self.right.row(table, samples, start, scratch, from, words, place);
+        // an undriven letter is read as false
+        let all = Recording { driven: if recording.driven < 32 { 32 } else { recording.driven }, ..recording };
+        let recording = if self.fault == Fault::UndrivenRead { all } else { recording };
+        let number = self.right.row(table, recording, scratch, from, words, place);
         if self.fault == Fault::RowNotLast {
             *from = 0;
+        }
+        // a row has the parity of the bits above the driven ones
+        if self.fault == Fault::UndrivenCounted && number == 0 && recording.driven < 32 {
+            let above: u32 = recording.samples.iter().map(|sample| (sample >> recording.driven).count_ones()).sum();
+            scratch[0] ^= u64::from(above % 2);
         }
         number
     }
@@ -130,6 +137,9 @@ fn faults_are_found_and_made_small() {
         Fault::GuardWritten,
         Fault::TextPlaceLate,
         Fault::WordsBeforeGrammar,
+        Fault::HighestUndriven,
+        Fault::UndrivenRead,
+        Fault::UndrivenCounted,
     ] {
         let smallest = found(fault);
         assert!(smallest.table.len() <= 3, "{smallest}");

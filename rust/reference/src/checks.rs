@@ -1,4 +1,4 @@
-//! Document 01's check table. Every condition that applies is gathered with its rank, and the lowest rank is returned:
+//! The check table of documents 01 and 02. Every condition that applies is gathered with its rank, and the lowest rank is returned:
 //! "places run downward; the first that applies is returned".
 use crate::word::{Field, Word, MOST_WORDS};
 use std::collections::HashSet;
@@ -23,13 +23,14 @@ const EACH_WORD: u32 = 2;
 const UNUSED: u32 = 3;
 const UNTIL_LIKE: u32 = 4;
 const RECORDING: u32 = 5;
-const SCRATCH: u32 = 6;
-const TALLY: u32 = 7;
+const DRIVEN: u32 = 6;
+const SCRATCH: u32 = 7;
+const TALLY: u32 = 8;
 
 impl Faults {
     fn note(&mut self, applies: bool, rank: Rank, number: u32) {
         if applies {
-            let place = if (3..=11).contains(&number) { rank.1 } else { 0 };
+            let place = if matches!(number, 3..=11 | 21) { rank.1 } else { 0 };
             self.found.push((rank, Refusal { number, place }));
         }
     }
@@ -78,11 +79,22 @@ impl Faults {
         self
     }
 
-    /// Checks 13 to 15.
-    pub fn recording(&mut self, samples: usize, start: usize) -> &mut Faults {
+    /// Checks 13 to 15, then 22.
+    pub fn recording(&mut self, samples: usize, start: usize, driven: usize) -> &mut Faults {
         self.note(samples == 0, (RECORDING, 0, 1), 13);
         self.note(samples > 4096, (RECORDING, 0, 2), 14);
         self.note(start >= samples, (RECORDING, 0, 3), 15);
+        self.note(driven > 32, (RECORDING, 0, 4), 22);
+        self
+    }
+
+    /// Check 21: words whose letter is above the driven count, the lowest first.
+    pub fn driven(&mut self, table: &[u32], driven: usize) -> &mut Faults {
+        for (n, &bits) in (1..).zip(table) {
+            let word = Word::of(bits);
+            let names = word.fields().is_some_and(|(_, right)| right == Field::Letter);
+            self.note(names && word.right > driven, (DRIVEN, n, 0), 21);
+        }
         self
     }
 

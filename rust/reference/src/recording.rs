@@ -2,10 +2,12 @@
 use crate::forest::{Forest, Node, Tree};
 use std::collections::HashMap;
 
+/// Samples, the loop start, and how many letters are driven: letters 1 to that one.
 #[derive(Clone, Copy)]
 pub struct Recording<'a> {
     pub samples: &'a [u32],
     pub start: usize,
+    pub driven: usize,
 }
 
 impl Recording<'_> {
@@ -32,7 +34,9 @@ impl Recording<'_> {
         std::iter::successors(Some(i), |&k| Some(self.after(k))).take(different)
     }
 
+    /// A letter that is driven; the bits of others are no reading.
     fn letter(&self, n: usize, i: usize) -> bool {
+        assert!((1..=self.driven).contains(&n), "letter {n} is not driven");
         self.samples[i] >> (n - 1) & 1 == 1
     }
 

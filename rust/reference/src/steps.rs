@@ -117,15 +117,16 @@ fn rule_row(table: &[u32], recording: Recording) -> Vec<bool> {
     Truth::of(&forest, &trees, recording).row(trees[trees.len() - 1]).to_vec()
 }
 
-fn row_faults(table: &[u32], samples: &[u32], start: usize, scratch: &[u64]) -> Faults {
+fn row_faults(table: &[u32], recording: Recording, scratch: &[u64]) -> Faults {
+    let (samples, start, driven) = (recording.len(), recording.start, recording.driven);
     let mut faults = Faults::default();
-    faults.table(table, false, MOST_WORDS).recording(samples.len(), start).scratch(table.len(), samples.len(), scratch.len());
+    faults.table(table, false, MOST_WORDS).recording(samples, start, driven).driven(table, driven);
+    faults.scratch(table.len(), samples, scratch.len());
     faults
 }
 
-pub fn judge(table: &[u32], samples: &[u32], start: usize, scratch: &mut [u64], tally: &mut Tally) -> Result<Judgement, Refusal> {
-    row_faults(table, samples, start, scratch).tally(tally.judged, tally.held).first()?;
-    let recording = Recording { samples, start };
+pub fn judge(table: &[u32], recording: Recording, scratch: &mut [u64], tally: &mut Tally) -> Result<Judgement, Refusal> {
+    row_faults(table, recording, scratch).tally(tally.judged, tally.held).first()?;
     let rows = rows(table, recording);
     scratch[..rows.len()].copy_from_slice(&rows);
     let row = rule_row(table, recording);
@@ -139,9 +140,9 @@ pub fn judge(table: &[u32], samples: &[u32], start: usize, scratch: &mut [u64], 
 }
 
 /// The row call: which part of the scratch is the rule's own row.
-pub fn row(table: &[u32], samples: &[u32], start: usize, scratch: &mut [u64]) -> Result<Range<usize>, Refusal> {
-    row_faults(table, samples, start, scratch).first()?;
-    let rows = rows(table, Recording { samples, start });
+pub fn row(table: &[u32], recording: Recording, scratch: &mut [u64]) -> Result<Range<usize>, Refusal> {
+    row_faults(table, recording, scratch).first()?;
+    let rows = rows(table, recording);
     scratch[..rows.len()].copy_from_slice(&rows);
-    Ok(rows.len() - samples.len().div_ceil(64)..rows.len())
+    Ok(rows.len() - recording.len().div_ceil(64)..rows.len())
 }

@@ -1,5 +1,6 @@
 //! Document 01's "Rules on the desk" and "Misreadings to shut out", held to the reference itself.
 use reference::checks::Refusal;
+use reference::recording::Recording;
 use reference::steps::*;
 
 fn plain_words(table: &[u32]) -> Vec<u32> {
@@ -10,10 +11,10 @@ fn normal_words(table: &[u32]) -> Vec<u32> {
     normal_form(table).expect("accepted").iter().map(|w| w.bits()).collect()
 }
 
-/// The moments at which a rule holds.
+/// The moments at which a rule holds; all letters are driven.
 fn moments(table: &[u32], samples: &[u32], start: usize) -> Vec<usize> {
     let mut scratch = vec![0; table.len() * samples.len().div_ceil(64)];
-    let part = row(table, samples, start, &mut scratch).expect("accepted");
+    let part = row(table, Recording { samples, start, driven: 32 }, &mut scratch).expect("accepted");
     (0..samples.len()).filter(|i| scratch[part.start + i / 64] >> (i % 64) & 1 == 1).collect()
 }
 

@@ -1,6 +1,7 @@
-//! Document 02's sentences about texts (N1), held to the reference itself.
+//! Document 02's sentences about texts (N1) and driven letters (N3), held to the reference itself.
 use reference::checks::Refusal;
-use reference::steps::text;
+use reference::recording::Recording;
+use reference::steps::{row, text};
 
 /// The words of a text, or its refusal's number and place, with so much room.
 fn read(typed: &str, room: usize) -> Result<Vec<u32>, (u32, usize)> {
@@ -39,4 +40,28 @@ fn the_order_of_refusals() {
     assert_eq!(read(&prefixes(63), 64).map(|words| words.len()), Ok(64));
     assert_eq!(read(&prefixes(63), 63), Err((12, 0)));
     assert_eq!(read("", 0), Err((19, 1)));
+}
+
+/// N3: number and place of a row call over one sample, and the row's word where it is accepted.
+fn row_of(table: &[u32], sample: u32, start: usize, driven: usize, room: usize) -> Result<u64, (u32, usize)> {
+    let mut scratch = vec![7; room];
+    let part = row(table, Recording { samples: &[sample], start, driven }, &mut scratch).map_err(|r| (r.number, r.place))?;
+    Ok(scratch[part.start])
+}
+
+#[test]
+fn undriven_letters_are_turned_away() {
+    // p3 or not p5
+    let or = [0x3000_0003, 0x4000_0005, 0x6000_4002];
+    assert_eq!([0, 2, 4].map(|driven| row_of(&or, 0, 0, driven, 3)), [Err((21, 1)), Err((21, 1)), Err((21, 2))]);
+    assert_eq!([5, 32].map(|driven| row_of(&or, 0, 0, driven, 3)), [Ok(1), Ok(1)]);
+    // after 15; before 16
+    assert_eq!(row_of(&or, 0, 0, 33, 0), Err((22, 0)));
+    assert_eq!(row_of(&or, 0, 1, 33, 3), Err((15, 0)));
+    assert_eq!(row_of(&or, 0, 0, 2, 0), Err((21, 1)));
+    assert_eq!(row_of(&or, 0, 0, 5, 2), Err((16, 0)));
+    // a constant with nothing driven
+    assert_eq!(row_of(&[0x2000_0000], 0, 0, 0, 1), Ok(1));
+    // bits above the count are never looked at
+    assert_eq!(row_of(&or, 0b01_0000, 0, 5, 3), row_of(&or, 0xFFFF_FFE0 | 0b01_0000, 0, 5, 3));
 }

@@ -64,6 +64,20 @@ pub const MOST_UNTIL_LIKE: usize = 8;
 pub const MOST_TEXT_BYTES: usize = 1_024;
 /// The most samples of a recording.
 pub const MOST_SAMPLES: usize = 4_096;
+/// The most letters that a recording drives.
+pub const MOST_DRIVEN: usize = 32;
+
+/// A recording: after the last sample comes the one at the loop start again, for ever.
+#[derive(Clone, Copy, PartialEq, Eq, Debug)]
+pub struct Recording<'a> {
+    /// One for each recorded moment. Letter n is bit n - 1, bit 0 the lowest.
+    pub samples: &'a [u32],
+    /// The loop start, a moment counted from 0.
+    pub start: usize,
+    /// How many letters are driven, 0 to 32: letters 1 to this one. The bits of other letters are never looked at, and a rule that names
+    /// one is refused.
+    pub driven: usize,
+}
 
 /// Judgements so far, and how many of them held at moment 0.
 #[derive(Clone, Copy, PartialEq, Eq, Debug, Default)]
@@ -189,28 +203,35 @@ pub fn scratch_words(words: usize, samples: usize) -> usize {
     words * samples.div_ceil(64)
 }
 
-/// Judges a rule over a recording whose samples from `start` on repeat for ever. The rows of all words stand at the start of the
-/// scratch, and the tally counts the judgement. A refusal changes neither.
+/// Judges a rule over a recording. The rows of all words stand at the start of the scratch, and the tally counts the judgement. A refusal
+/// changes neither.
 ///
 /// ```
 /// let always = [0x3000_0001, 0xE000_0001];
 /// let mut scratch = [0; 2];
 /// let mut tally = showrule::Tally::default();
-/// let judgement = showrule::judge(&always, &[0, 1], 1, &mut scratch, &mut tally)?;
+/// let recording = showrule::Recording { samples: &[0, 1], start: 1, driven: 1 };
+/// let judgement = showrule::judge(&always, recording, &mut scratch, &mut tally)?;
 /// assert_eq!((judgement.holds, judgement.moments, judgement.failing), (false, 1, 0));
 /// assert_eq!((tally.judged, tally.held), (1, 0));
+///
+/// // a desk that drives no input
+/// let idle = showrule::Recording { driven: 0, ..recording };
+/// let refusal = showrule::judge(&always, idle, &mut scratch, &mut tally).unwrap_err();
+/// assert_eq!((refusal.number(), refusal.place()), (21, 1));
 /// # Ok::<(), showrule::Refusal>(())
 /// ```
-pub fn judge(table: &[u32], samples: &[u32], start: usize, scratch: &mut [u64], tally: &mut Tally) -> Result<Judgement, Refusal> {
+pub fn judge(table: &[u32], recording: Recording, scratch: &mut [u64], tally: &mut Tally) -> Result<Judgement, Refusal> {
     let before = *tally;
     let (mut holds, mut moments, mut failing, mut place) = (false, 0, 0, 0);
     let number = unsafe {
         ffi::showrule_judge(
             table.as_ptr(),
             table.len(),
-            samples.as_ptr(),
-            samples.len(),
-            start,
+            recording.samples.as_ptr(),
+            recording.samples.len(),
+            recording.start,
+            recording.driven,
             scratch.as_mut_ptr(),
             scratch.len(),
             &mut tally.judged,
@@ -221,9 +242,7 @@ pub fn judge(table: &[u32], samples: &[u32], start: usize, scratch: &mut [u64], 
             &mut place,
         )
     };
-    let call =
-        Call { table, limit: MOST_WORDS, room: scratch.len(), samples: samples.len(), start, tally: before, ..Call::default() };
-    call.answer(number, place)?;
+    Call { tally: before, ..judging(table, recording, scratch) }.answer(number, place)?;
     Ok(Judgement { holds, moments, failing })
 }
 
@@ -233,18 +252,20 @@ pub fn judge(table: &[u32], samples: &[u32], start: usize, scratch: &mut [u64], 
 /// ```
 /// let finally = [0x3000_0001, 0xD000_0001];
 /// let mut scratch = [0; 2];
-/// assert_eq!(showrule::row(&finally, &[1, 0], 1, &mut scratch)?, [0b01]);
+/// let recording = showrule::Recording { samples: &[1, 0], start: 1, driven: 1 };
+/// assert_eq!(showrule::row(&finally, recording, &mut scratch)?, [0b01]);
 /// # Ok::<(), showrule::Refusal>(())
 /// ```
-pub fn row<'a>(table: &[u32], samples: &[u32], start: usize, scratch: &'a mut [u64]) -> Result<&'a mut [u64], Refusal> {
+pub fn row<'a>(table: &[u32], recording: Recording, scratch: &'a mut [u64]) -> Result<&'a mut [u64], Refusal> {
     let (mut from, mut row_words, mut place) = (0, 0, 0);
     let number = unsafe {
         ffi::showrule_row(
             table.as_ptr(),
             table.len(),
-            samples.as_ptr(),
-            samples.len(),
-            start,
+            recording.samples.as_ptr(),
+            recording.samples.len(),
+            recording.start,
+            recording.driven,
             scratch.as_mut_ptr(),
             scratch.len(),
             &mut from,
@@ -252,7 +273,12 @@ pub fn row<'a>(table: &[u32], samples: &[u32], start: usize, scratch: &'a mut [u
             &mut place,
         )
     };
-    let call = Call { table, limit: MOST_WORDS, room: scratch.len(), samples: samples.len(), start, ..Call::default() };
-    call.answer(number, place)?;
+    judging(table, recording, scratch).answer(number, place)?;
     Ok(&mut scratch[from..from + row_words])
+}
+
+/// What both calls were handed.
+fn judging<'a>(table: &'a [u32], recording: Recording, scratch: &[u64]) -> Call<'a> {
+    let Recording { samples, start, driven } = recording;
+    Call { table, limit: MOST_WORDS, room: scratch.len(), samples: samples.len(), start, driven, ..Call::default() }
 }

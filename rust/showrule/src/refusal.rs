@@ -1,5 +1,5 @@
 //! Why a call is refused: its number and place in the documents, and a sentence that says what to look at.
-use crate::{scratch_words, Tally, MOST_SAMPLES, MOST_TEXT_BYTES, MOST_UNTIL_LIKE, MOST_WRITTEN_WORDS};
+use crate::{scratch_words, Tally, MOST_DRIVEN, MOST_SAMPLES, MOST_TEXT_BYTES, MOST_UNTIL_LIKE, MOST_WRITTEN_WORDS};
 use std::fmt;
 
 /// A field of a word.
@@ -87,6 +87,15 @@ pub enum Refusal {
     TextTooLong {
         bytes: usize,
     },
+    /// The recording does not drive a letter of the rule.
+    LetterNotDriven {
+        place: usize,
+        letter: u32,
+        driven: usize,
+    },
+    TooManyDriven {
+        driven: usize,
+    },
     /// A number that this crate does not know.
     Other {
         number: u32,
@@ -103,6 +112,7 @@ pub(crate) struct Call<'a> {
     pub room: usize,
     pub samples: usize,
     pub start: usize,
+    pub driven: usize,
     pub tally: Tally,
     pub of_plain_form: bool,
 }
@@ -144,6 +154,8 @@ impl Call<'_> {
             17 => Refusal::TallyFull { judged: self.tally.judged, held: self.tally.held },
             19 => Refusal::NoRule { place, ends_early: self.text.is_some_and(|text| place > text.len()) },
             20 => Refusal::TextTooLong { bytes: self.text.map_or(0, |text| text.len()) },
+            21 => Refusal::LetterNotDriven { place, letter: right, driven: self.driven },
+            22 => Refusal::TooManyDriven { driven: self.driven },
             _ => Refusal::Other { number, place },
         }
     }
@@ -172,11 +184,13 @@ impl Refusal {
             Refusal::TallyFull { .. } => 17,
             Refusal::NoRule { .. } => 19,
             Refusal::TextTooLong { .. } => 20,
+            Refusal::LetterNotDriven { .. } => 21,
+            Refusal::TooManyDriven { .. } => 22,
             Refusal::Other { number, .. } => number,
         }
     }
 
-    /// The number of the faulty word for 3 to 11, that of a byte of the text for 19, and 0 otherwise.
+    /// The number of the faulty word for 3 to 11 and 21, that of a byte of the text for 19, and 0 otherwise.
     pub fn place(&self) -> usize {
         match *self {
             Refusal::KindZero { place }
@@ -189,6 +203,7 @@ impl Refusal {
             | Refusal::Unused { place }
             | Refusal::TooManyUntilLike { place, .. }
             | Refusal::NoRule { place, .. }
+            | Refusal::LetterNotDriven { place, .. }
             | Refusal::Other { place, .. } => place,
             _ => 0,
         }
@@ -261,6 +276,15 @@ impl fmt::Display for Refusal {
             }
             Refusal::TextTooLong { bytes } => {
                 write!(f, "the text has {bytes} bytes, and at most {MOST_TEXT_BYTES} are read")
+            }
+            Refusal::LetterNotDriven { place, letter, driven: 0 } => {
+                write!(f, "word {place} names letter {letter}, and the recording drives no letter")
+            }
+            Refusal::LetterNotDriven { place, letter, driven } => {
+                write!(f, "word {place} names letter {letter}, and the recording drives letters 1 to {driven}")
+            }
+            Refusal::TooManyDriven { driven } => {
+                write!(f, "the recording says that it drives {driven} letters, and there are {MOST_DRIVEN}")
             }
             Refusal::Other { number, place } => write!(f, "refused {number} at {place}"),
         }

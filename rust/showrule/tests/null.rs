@@ -26,6 +26,7 @@ fn empty_slices() {
             null(),
             0,
             0,
+            1,
             null_mut(),
             0,
             &mut judged,
@@ -36,7 +37,7 @@ fn empty_slices() {
             &mut place,
         );
         assert_eq!((number, judged, held, holds, moments, failing), (13, 5, 3, false, 0, 0));
-        let number = showrule_row(letter.as_ptr(), 1, letter.as_ptr(), 1, 0, null_mut(), 0, &mut from, &mut words, &mut place);
+        let number = showrule_row(letter.as_ptr(), 1, letter.as_ptr(), 1, 0, 1, null_mut(), 0, &mut from, &mut words, &mut place);
         assert_eq!((number, from, words), (16, 0, 0));
     }
 }

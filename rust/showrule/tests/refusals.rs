@@ -1,5 +1,5 @@
-//! Every refusal of document 01's check table: its number, its place and its sentence.
-use showrule::{check, classify, form, judge, normal_form, plain_form, row, Refusal, Tally};
+//! Every refusal of a table, a form and a recording: its number, its place and its sentence.
+use showrule::{check, classify, form, judge, normal_form, plain_form, row, Recording, Refusal, Tally};
 
 fn is<T: std::fmt::Debug>(answer: Result<T, Refusal>, number: u32, place: usize, sentence: &str) {
     let refusal = answer.expect_err("it is refused");
@@ -49,16 +49,34 @@ fn forms() {
     );
 }
 
+/// A recording that drives letter 1.
+fn one(samples: &[u32], start: usize) -> Recording<'_> {
+    Recording { samples, start, driven: 1 }
+}
+
 #[test]
 fn recordings() {
     let mut tally = Tally { judged: 3, held: 2 };
-    is(judge(&ALWAYS, &[], 0, &mut [], &mut tally), 13, 0, "the recording has no sample");
-    is(row(&ALWAYS, &[0; 4097], 0, &mut []), 14, 0, "the recording has 4097 samples, and at most 4096 are judged");
-    is(row(&ALWAYS, &[0; 3], 3, &mut []), 15, 0, "the loop starts at moment 3, and the recording's moments are 0 to 2");
-    is(row(&ALWAYS, &[0; 65], 3, &mut [0; 3]), 16, 0, "the scratch has 3 words of 64 bits, and the rows need 4");
+    is(judge(&ALWAYS, one(&[], 0), &mut [], &mut tally), 13, 0, "the recording has no sample");
+    is(row(&ALWAYS, one(&[0; 4097], 0), &mut []), 14, 0, "the recording has 4097 samples, and at most 4096 are judged");
+    is(row(&ALWAYS, one(&[0; 3], 3), &mut []), 15, 0, "the loop starts at moment 3, and the recording's moments are 0 to 2");
+    is(row(&ALWAYS, one(&[0; 65], 3), &mut [0; 3]), 16, 0, "the scratch has 3 words of 64 bits, and the rows need 4");
     assert_eq!(tally, Tally { judged: 3, held: 2 });
     let mut full = Tally { judged: u32::MAX, held: 2 };
-    is(judge(&ALWAYS, &[0], 0, &mut [0; 2], &mut full), 17, 0, "the tally is full: 4294967295 judgements are counted");
+    is(judge(&ALWAYS, one(&[0], 0), &mut [0; 2], &mut full), 17, 0, "the tally is full: 4294967295 judgements are counted");
     let mut damaged = Tally { judged: 1, held: 2 };
-    is(judge(&ALWAYS, &[0], 0, &mut [0; 2], &mut damaged), 17, 0, "the tally has 2 held of 1 judged: it is damaged");
+    is(judge(&ALWAYS, one(&[0], 0), &mut [0; 2], &mut damaged), 17, 0, "the tally has 2 held of 1 judged: it is damaged");
+}
+
+#[test]
+fn driven_letters() {
+    let or = [0x3000_0003, 0x4000_0005, 0x6000_4002];
+    let judge =
+        |table: &[u32], driven| judge(table, Recording { samples: &[0], start: 0, driven }, &mut [0; 3], &mut Tally::default());
+    is(judge(&or, 0), 21, 1, "word 1 names letter 3, and the recording drives no letter");
+    is(judge(&or, 2), 21, 1, "word 1 names letter 3, and the recording drives letters 1 to 2");
+    is(judge(&or, 4), 21, 2, "word 2 names letter 5, and the recording drives letters 1 to 4");
+    is(judge(&or, 33), 22, 0, "the recording says that it drives 33 letters, and there are 32");
+    assert!(judge(&or, 5).unwrap().holds);
+    assert!(judge(&[0x2000_0000], 0).unwrap().holds);
 }

@@ -20,8 +20,9 @@ fn longest_tables() {
     on_small_stack(move || {
         check(&table, true, MOST_WORDS).unwrap();
         classify(&table, &mut bytes).unwrap();
-        assert!(judge(&table, &samples, 4_095, &mut scratch, &mut Tally::default()).unwrap().holds);
-        assert_eq!(row(&table, &samples, 0, &mut scratch).unwrap().len(), 64);
+        let recording = Recording { samples: &samples, start: 4_095, driven: 32 };
+        assert!(judge(&table, recording, &mut scratch, &mut Tally::default()).unwrap().holds);
+        assert_eq!(row(&table, Recording { start: 0, ..recording }, &mut scratch).unwrap().len(), 64);
     });
 }
 

@@ -2,33 +2,28 @@
 use Prim.Native.Nat.{_+_, _-_, _*_, _≤_}
 use borrow.Author.Needs.{needs}
 use lib.ListN.{length}
-use mathlib.Core.Path.{_≡_}
 use native.Mathlib.Omega.{arith}
-use Rattle.evaluation.proofs.LastRow.{judge-rows, some-word, last-small, last-end, last-for, last-row, accepted-reply}
-use Rattle.evaluation.proofs.WordRow.{few-samples, outcome-length}
-use Rattle.evaluation.specs.Judging.{rowOutcome}
-use Rattle.table.specs.declared.refusal.Outcome.the-variants.{Accepted}
+use Rattle.evaluation.proofs.LastRow.{judge-few, some-word, last-small, last-end, last-for, last-row, accepted-reply}
+use Rattle.evaluation.proofs.WordRow.{fillable-length}
+use Rattle.evaluation.specs.Judging.{Fillable}
 use Rattle.evaluation.proofs.judge_accepted.Statement.{statement}
 use Rattle.evaluation.proofs.judge_accepted.Tie as tie
 
-accepted : (c : tie.Start) → rowOutcome (c .args .table .now) (c .args .samples .now) (c .args .start) (c .args .scratch .now) ≡ Accepted
-accepted c = judge-rows _ _ _ _ _ (c .pre)
-
-still-accepted : (c : tie.After-fill-rows)
-    → rowOutcome (c .before .before .before .before .before .args .table .now) (c .before .before .before .before .before .args .samples .now) (c .before .before .before .before .before .args .start) (c .fill-rows .last .1 .1 .1 .0) ≡ Accepted
-still-accepted c = outcome-length _ _ _ _ _ (c .fill-rows .kept .1 .1 .1 .0) (accepted (c .before .before .before .before .before))
+still-fillable : (c : tie.After-fill-rows)
+    → Fillable (c .before .before .before .before .before .args .table .now) (c .before .before .before .before .before .args .samples .now) (c .before .before .before .before .before .args .start) (c .fill-rows .last .1 .1 .1 .0)
+still-fillable c = fillable-length _ _ (c .fill-rows .kept .1 .1 .1 .0) (c .before .before .before .before .before .pre)
 
 small : (c : tie.After-row-words) → (length (c .before .before .before .before .before .before .before .before .args .table .now) - 1) * c .row-words .result + c .row-words .result ≤ 1048576
-small c = last-small _ _ _ _ _ (accepted (c .before .before .before .before .before .before .before .before)) (c .row-words .ensures)
+small c = last-small _ _ _ _ _ (c .before .before .before .before .before .before .before .before .pre) (c .row-words .ensures)
 
 fill-rows-requires : tie.Need-fill-rows-requires
-fill-rows-requires c κs = accepted (c .before .before .before .before)
+fill-rows-requires c κs = c .before .before .before .before .pre
 
 row-words-requires : tie.Need-row-words-requires
-row-words-requires c κs = few-samples _ _ _ _ (accepted (c .before .before .before .before .before .before .before))
+row-words-requires c κs = c .before .before .before .before .before .before .before .pre .few
 
 sub-from : tie.Need-sub-from
-sub-from c = some-word _ _ _ _ _ (accepted (c .before .before .before .before .before .before .before .before)) (c .row-words .ensures)
+sub-from c = some-word _ _ _ _ _ (c .before .before .before .before .before .before .before .before .pre) (c .row-words .ensures)
 
 mul-from : tie.Need-mul-from
 mul-from c = omega (arith, small c)
@@ -40,16 +35,17 @@ mul-read-answer : tie.Need-mul-read-answer
 mul-read-answer c = omega (arith, small c)
 
 part-read-answer-end : tie.Need-part-read-answer-end
-part-read-answer-end c = last-end _ _ _ _ _ (still-accepted (c .before .before .before .before)) (c .before .row-words .ensures)
+part-read-answer-end c = last-end _ _ _ _ _ (still-fillable (c .before .before .before .before)) (c .before .row-words .ensures)
 
 read-answer-requires : tie.Need-read-answer-requires
-read-answer-requires c κs = last-for _ _ _ _ _ (still-accepted (c .before .before .before .before .before)) (c .before .before .row-words .ensures)
+read-answer-requires c κs = last-for _ _ _ _ _ (still-fillable (c .before .before .before .before .before)) (c .before .before .row-words .ensures)
 
 returns : tie.Need-returns
 returns c = (
-  accepted-reply _ _ _ _ _ _ _
-      (c .before .before .before .before .before .before .before .before .before .before .before .pre)
-      (last-row _ _ _ _ _ (still-accepted (c .before .before .before .before .before .before)) (c .before .before .before .row-words .ensures) _ (c .before .before .before .before .before .before .fill-rows .ensures))
+  λ driven e.
+      let few = judge-few _ _ _ driven _ _ e in
+      accepted-reply _ _ _ driven _ _ _ _ e
+      (last-row _ _ _ _ _ (still-fillable (c .before .before .before .before .before .before)) (c .before .before .before .row-words .ensures) driven few _ (c .before .before .before .before .before .before .fill-rows .ensures driven few))
       (c .read-answer .ensures),
   c .before .before .before .before .before .before .fill-rows .ensures,
 )

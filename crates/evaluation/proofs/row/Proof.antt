@@ -5,8 +5,8 @@ use lib.ListN.{length}
 use mathlib.Core.Path.{_≡_, sym, ap, _∙_}
 use native.Mathlib.Omega.{arith}
 use Rattle.evaluation.proofs.LastRow.{some-word, last-small, last-end, last-row, accepted-scratch, accepted-part, refused-part, accepted-at, refused-at}
-use Rattle.evaluation.proofs.WordRow.{few-samples, outcome-length}
-use Rattle.evaluation.specs.Judging.{rowOutcome}
+use Rattle.evaluation.proofs.WordRow.{accepted-facts, accepted-fillable, fillable-length}
+use Rattle.evaluation.specs.Judging.{rowOutcome, Fillable}
 use Rattle.table.specs.declared.refusal.Report.{Report}
 use Rattle.table.specs.Refusals.{outcomeReport, outcomeNumber, outcomePlace}
 use Rattle.table.specs.declared.refusal.Outcome.the-variants.{Accepted}
@@ -15,21 +15,25 @@ use Rattle.evaluation.proofs.row.Tie as tie
 
 -- the checks accept, before the rows are written and after it
 accepted : (c : tie.After-enum-told)
-    → rowOutcome (c .before .before .before .before .before .before .before .before .before .args .table .now) (c .before .before .before .before .before .before .before .before .before .args .samples .now) (c .before .before .before .before .before .before .before .before .before .args .start) (c .before .before .before .before .before .before .before .before .before .args .scratch .now) ≡ Accepted
+    → rowOutcome (c .before .before .before .before .before .before .before .before .before .args .table .now) (c .before .before .before .before .before .before .before .before .before .args .samples .now) (c .before .before .before .before .before .before .before .before .before .args .start) (c .before .before .before .before .before .before .before .before .before .args .driven) (c .before .before .before .before .before .before .before .before .before .args .scratch .now) ≡ Accepted
 accepted c = sym (c .before .before .before .before .fill .ensures .0) ∙ c .enum-told .given .1
 
-still-accepted : (c : tie.After-enum-told)
-    → rowOutcome (c .before .before .before .before .before .before .before .before .before .args .table .now) (c .before .before .before .before .before .before .before .before .before .args .samples .now) (c .before .before .before .before .before .before .before .before .before .args .start) (c .before .before .before .before .fill .last .1 .1 .1 .0) ≡ Accepted
-still-accepted c = outcome-length _ _ _ _ _ (c .before .before .before .before .fill .kept .1 .1 .1 .0) (accepted c)
+fillable : (c : tie.After-enum-told)
+    → Fillable (c .before .before .before .before .before .before .before .before .before .args .table .now) (c .before .before .before .before .before .before .before .before .before .args .samples .now) (c .before .before .before .before .before .before .before .before .before .args .start) (c .before .before .before .before .before .before .before .before .before .args .scratch .now)
+fillable c = accepted-fillable _ _ _ _ _ (accepted c)
+
+still-fillable : (c : tie.After-enum-told)
+    → Fillable (c .before .before .before .before .before .before .before .before .before .args .table .now) (c .before .before .before .before .before .before .before .before .before .args .samples .now) (c .before .before .before .before .before .before .before .before .before .args .start) (c .before .before .before .before .fill .last .1 .1 .1 .1 .0)
+still-fillable c = fillable-length _ _ (c .before .before .before .before .fill .kept .1 .1 .1 .1 .0) (fillable c)
 
 small : (c : tie.After-row-words) → (length (c .before .before .before .before .before .before .before .before .before .before .args .table .now) - 1) * c .row-words .result + c .row-words .result ≤ 1048576
-small c = last-small _ _ _ _ _ (accepted (c .before)) (c .row-words .ensures)
+small c = last-small _ _ _ _ _ (fillable (c .before)) (c .row-words .ensures)
 
 row-words-requires : tie.Need-row-words-requires
-row-words-requires c κs = few-samples _ _ _ _ (accepted c)
+row-words-requires c κs = fillable c .few
 
 sub-from : tie.Need-sub-from
-sub-from c = some-word _ _ _ _ _ (accepted (c .before)) (c .row-words .ensures)
+sub-from c = some-word _ _ _ _ _ (fillable (c .before)) (c .row-words .ensures)
 
 mul-from : tie.Need-mul-from
 mul-from c = omega (arith, small c)
@@ -41,19 +45,19 @@ mul-scratch : tie.Need-mul-scratch
 mul-scratch c = omega (arith, small c)
 
 part-scratch-end-2 : tie.Need-part-scratch-end-2
-part-scratch-end-2 c = last-end _ _ _ _ _ (still-accepted (c .before)) (c .row-words .ensures)
+part-scratch-end-2 c = last-end _ _ _ _ _ (still-fillable (c .before)) (c .row-words .ensures)
 
 returns : tie.Need-returns
 returns c =
     let told = sym (c .before .before .before .before .before .before .before .fill .ensures .0) ∙ c .before .before .before .why .given .1 in
     let report = c .before .report-of .ensures ∙ ap outcomeReport (sym told) in
-    (refused-part _ _ _ told, (refused-at _ _ _ told, (ap (λ (r : Report). r .0) report, ap (λ (r : Report). r .1) report)))
+    (refused-part _ _ _ _ told, (refused-at _ _ _ told, (ap (λ (r : Report). r .0) report, ap (λ (r : Report). r .1) report)))
 
 returns-2 : tie.Need-returns-2
 returns-2 c =
     let told = accepted (c .before .before) in
-    let rows = c .before .before .before .before .before .before .fill .ensures .1 ∙ sym (accepted-scratch _ _ _ _ (c .before .before .enum-told .given .1)) in (
-      last-row _ _ _ _ _ (still-accepted (c .before .before)) (c .before .row-words .ensures) _ rows ∙ accepted-part _ _ _ told,
+    let rows = c .before .before .before .before .before .before .fill .ensures .1 ∙ sym (accepted-scratch _ _ _ _ _ (c .before .before .enum-told .given .1)) in (
+      last-row _ _ _ _ _ (still-fillable (c .before .before)) (c .before .row-words .ensures) _ (accepted-facts _ _ _ _ _ told .few-driven) _ rows ∙ accepted-part _ _ _ _ told,
       (accepted-at _ _ _ told (c .before .row-words .ensures), (ap outcomeNumber (sym told), ap outcomePlace (sym told))),
     )
 

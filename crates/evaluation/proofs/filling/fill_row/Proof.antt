@@ -16,7 +16,7 @@ small c = part-small _ _ _ _ _ _ (c .before .before .before .before .before .bef
 prepare-requires : tie.Need-prepare-requires
 prepare-requires c κs =
     let s = c .before .before .before .before .before .before .before .before .before .before .before .before .before .before in
-    (s .pre .1 .1, standing _ _ _ _ _ _ (s .pre .0 .0) (s .pre .0 .1) (c .before .before .before .before .before .before .before .before .row-words .ensures) (c .before .before .before .before .before .of-kind .result) (c .before .before .before .before .before .of-kind .ensures ∙ ap (λ k. meaning (shape k)) (c .before .before .before .before .before .before .kind .ensures)) _ _ (c .before .before .first-operand .ensures) (c .before .before .before .before .right .ensures))
+    (s .pre .1, standing _ _ _ _ _ _ (s .pre .0 .0) (s .pre .0 .1) (c .before .before .before .before .before .before .before .before .row-words .ensures) (c .before .before .before .before .before .of-kind .result) (c .before .before .before .before .before .of-kind .ensures ∙ ap (λ k. meaning (shape k)) (c .before .before .before .before .before .before .kind .ensures)) _ _ (c .before .before .first-operand .ensures) (c .before .before .before .before .right .ensures))
 
 mul-from : tie.Need-mul-from
 mul-from c = omega (arith, small (c .before .before .before .before .before .before .before .before .before .before .before .before .before))
@@ -37,7 +37,7 @@ write-word-requires c κs =
     let lengths = c .before .before .before .before .before .before .before .prepare .kept in (
       part,
       (
-        (lengths .1 .1 .1 .1 .1 .0 ∙ s .pre .1 .1 .0 .size ∙ sym (part .size), lengths .1 .1 .1 .1 .1 .1 .0 ∙ s .pre .1 .1 .1 .size ∙ sym (part .size), start-inside _ _ _ _ _ _ (s .pre .0 .0) (s .pre .0 .1) (c .before .before .before .before .before .before .before .before .before .before .before .before .before .before .before .before .row-words .ensures)),
+        (lengths .1 .1 .1 .1 .1 .0 ∙ s .pre .1 .0 .size ∙ sym (part .size), lengths .1 .1 .1 .1 .1 .1 .0 ∙ s .pre .1 .1 .size ∙ sym (part .size), start-inside _ _ _ _ _ _ (s .pre .0 .0) (s .pre .0 .1) (c .before .before .before .before .before .before .before .before .before .before .before .before .before .before .before .before .row-words .ensures)),
         letter-in _ _ _ _ _ _ (s .pre .0 .0) (s .pre .0 .1) (c .before .before .before .before .before .before .before .before .before .before .before .before .before .before .before .before .row-words .ensures) (c .before .before .before .before .before .before .before .before .before .before .before .before .before .of-kind .result) (c .before .before .before .before .before .before .before .before .before .before .before .before .before .of-kind .ensures ∙ ap (λ k. meaning (shape k)) (c .before .before .before .before .before .before .before .before .before .before .before .before .before .before .kind .ensures)) _ _ (c .before .before .before .before .before .before .before .before .before .before .first-operand .ensures) (c .before .before .before .before .before .before .before .before .before .before .before .before .right .ensures),
       ),
     )
@@ -45,7 +45,7 @@ write-word-requires c κs =
 returns : tie.Need-returns
 returns c =
     let s = c .before .before .before .before .before .before .before .before .before .before .before .before .before .before .before .before .before .before .before .before .before .before .before .before .before in
-    row-filled _ _ _ _ _ _ (s .pre .0 .0) (s .pre .0 .1) (c .before .before .before .before .before .before .before .before .before .before .before .before .before .before .before .before .before .before .before .row-words .ensures) (c .before .before .before .before .before .before .before .before .before .before .before .before .before .before .before .before .of-kind .result) (c .before .before .before .before .before .before .before .before .before .before .before .before .before .before .before .before .of-kind .ensures ∙ ap (λ k. meaning (shape k)) (c .before .before .before .before .before .before .before .before .before .before .before .before .before .before .before .before .before .kind .ensures)) _ _ (c .before .before .before .before .before .before .before .before .before .before .before .before .before .first-operand .ensures) (c .before .before .before .before .before .before .before .before .before .before .before .before .before .before .before .right .ensures) (s .pre .1 .0) (c .before .before .before .before .before .before .before .before .before .before .prepare .last .1 .1 .1 .1 .1 .0) (c .before .before .before .before .before .before .before .before .before .before .prepare .last .1 .1 .1 .1 .1 .1 .0) _
+    row-filled _ _ _ _ _ _ (s .pre .0 .0) (s .pre .0 .1) (c .before .before .before .before .before .before .before .before .before .before .before .before .before .before .before .before .before .before .before .row-words .ensures) (c .before .before .before .before .before .before .before .before .before .before .before .before .before .before .before .before .of-kind .result) (c .before .before .before .before .before .before .before .before .before .before .before .before .before .before .before .before .of-kind .ensures ∙ ap (λ k. meaning (shape k)) (c .before .before .before .before .before .before .before .before .before .before .before .before .before .before .before .before .before .kind .ensures)) _ _ (c .before .before .before .before .before .before .before .before .before .before .before .before .before .first-operand .ensures) (c .before .before .before .before .before .before .before .before .before .before .before .before .before .before .before .right .ensures) (c .before .before .before .before .before .before .before .before .before .before .prepare .last .1 .1 .1 .1 .1 .0) (c .before .before .before .before .before .before .before .before .before .before .prepare .last .1 .1 .1 .1 .1 .1 .0) _
     (c .before .before .before .before .before .before .before .before .before .before .prepare .ensures) (c .before .before .write-word .ensures)
 
 pub fill-row-spec : {M : Type 1} → statement M

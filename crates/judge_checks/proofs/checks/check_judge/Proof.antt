@@ -6,10 +6,10 @@ use Rattle.judge_checks.proofs.checks.check_judge.Statement.{statement}
 use Rattle.judge_checks.proofs.checks.check_judge.Tie as tie
 
 returns : tie.Need-returns
-returns c = sym (judge-refused _ _ _ _ _ _ (sym (c .before .before .before .check-row .ensures) ∙ c .before .why .given .1))
+returns c = sym (judge-refused _ _ _ _ _ _ _ (sym (c .before .before .before .check-row .ensures) ∙ c .before .why .given .1))
 
 returns-2 : tie.Need-returns-2
-returns-2 c = c .check-tally .ensures ∙ sym (judge-accepted _ _ _ _ _ (sym (c .before .before .before .check-row .ensures) ∙ c .before .enum-told .given .1))
+returns-2 c = c .check-tally .ensures ∙ sym (judge-accepted _ _ _ _ _ _ (sym (c .before .before .before .check-row .ensures) ∙ c .before .enum-told .given .1))
 
 pub check-judge-spec : {M : Type 1} → statement M
 check-judge-spec =

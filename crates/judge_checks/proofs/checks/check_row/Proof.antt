@@ -11,10 +11,10 @@ check-memory-requires : tie.Need-check-memory-requires
 check-memory-requires c κs = accepted-well-formed false 16383 _ (sym (c .before .before .check .ensures) ∙ c .enum-told .given .1) .few
 
 returns : tie.Need-returns
-returns c = sym (row-refused _ _ _ _ _ (sym (c .before .before .before .check .ensures) ∙ c .before .why .given .1))
+returns c = sym (row-refused _ _ _ _ _ _ (sym (c .before .before .before .check .ensures) ∙ c .before .why .given .1))
 
 returns-2 : tie.Need-returns-2
-returns-2 c = c .check-memory .ensures ∙ sym (row-accepted _ _ _ _ (sym (c .before .before .before .check .ensures) ∙ c .before .enum-told .given .1))
+returns-2 c = c .check-memory .ensures ∙ sym (row-accepted _ _ _ _ _ (sym (c .before .before .before .check .ensures) ∙ c .before .enum-told .given .1))
 
 pub check-row-spec : {M : Type 1} → statement M
 check-row-spec =

@@ -1,6 +1,7 @@
 //! A case of the case runner: how it is written for the runner, and what the runner must print.
 use reference::checks::Refusal;
 use reference::edges::chain_of_next;
+use reference::recording::Recording;
 use reference::steps::{self, Judgement, Tally};
 
 #[derive(Clone, Copy, PartialEq, Eq)]
@@ -30,6 +31,7 @@ pub struct Case {
     pub limit: usize,
     pub samples: Samples,
     pub start: usize,
+    pub driven: usize,
     pub tally: Tally,
 }
 
@@ -54,6 +56,7 @@ impl Case {
             limit: 0,
             samples: Samples::Listed(vec![]),
             start: 0,
+            driven: 0,
             tally: Tally { judged: 0, held: 0 },
         }
     }
@@ -74,7 +77,7 @@ impl Case {
         let number = |n: usize| u32::try_from(n).expect("a word");
         let mut words = vec![self.step as u32, number(self.chain), number(self.listed.len()), number(place), word];
         words.extend([number(self.room), number(self.second), self.plain as u32, number(self.limit)]);
-        words.extend([number(count), number(self.start), self.tally.judged, self.tally.held, seed]);
+        words.extend([number(count), number(self.start), number(self.driven), self.tally.judged, self.tally.held, seed]);
         words.extend(&self.listed);
         words.extend(listed);
         words
@@ -88,11 +91,15 @@ impl Case {
         table
     }
 
-    fn recording(&self) -> Vec<u32> {
+    fn samples(&self) -> Vec<u32> {
         match &self.samples {
             Samples::Listed(samples) => samples.clone(),
             Samples::Made(count, seed) => record(*seed, *count),
         }
+    }
+
+    fn recording<'a>(&self, samples: &'a [u32]) -> Recording<'a> {
+        Recording { samples, start: self.start, driven: self.driven }
     }
 
     /// The line that the runner must print: number and place, the lent numbers, and a sum over the whole of each lent slice.
@@ -129,7 +136,8 @@ impl Case {
             Step::Judge => {
                 let mut scratch = vec![u64::MAX; 2_100];
                 let mut tally = self.tally;
-                let judged = steps::judge(&table, &self.recording(), self.start, &mut scratch[..self.room], &mut tally);
+                let samples = self.samples();
+                let judged = steps::judge(&table, self.recording(&samples), &mut scratch[..self.room], &mut tally);
                 let j = judged.unwrap_or(Judgement { holds: false, moments: 0, failing: 0 });
                 let holds = if j.holds { "holds" } else { "fails" };
                 let (said, rows) = (answer(&judged), rows(&scratch));
@@ -137,7 +145,8 @@ impl Case {
             }
             Step::Row => {
                 let mut scratch = vec![u64::MAX; 2_100];
-                let part = steps::row(&table, &self.recording(), self.start, &mut scratch[..self.room]);
+                let samples = self.samples();
+                let part = steps::row(&table, self.recording(&samples), &mut scratch[..self.room]);
                 let said = answer(&part);
                 let part = part.unwrap_or(0..0);
                 format!("{said}, {}, {}{}", part.start, part.len(), rows(&scratch))

@@ -1,0 +1,48 @@
+-- A form and its written rule before the judge: wherever the row call takes the rule it takes the form, given the room, and both get the same answer.
+use Prim.Native.Nat.{ℕ, _*_, _≤_}
+use mathlib.Core.Path.{_≡_, ap, fun-ext}
+use mathlib.Core.Logic.{Iff·symm, Iff·trans}
+use mathlib.Core.List.{List}
+use lib.ListN.{length, take}
+use Rattle.logic.specs.Lasso.{Lasso}
+use Rattle.logic.specs.Truth.{truth}
+use Rattle.logic.proofs.Tests.{T-same}
+use Rattle.logic.proofs.Lasso.Truth.{truth-holds}
+use Rattle.table.specs.declared.refusal.Outcome.the-variants.{Accepted}
+use Rattle.table.specs.Table.{rule}
+use Rattle.row_words.specs.Row.{row, rowWords}
+use Rattle.pipeline.specs.Claim.{Kept}
+use Rattle.evaluation.specs.Judging.{lassoOf, rowOf, judgement, rowOutcome, lastRow}
+use Rattle.judge_checks.proofs.Outcomes.{judgeable-accepted}
+use Rattle.evaluation.proofs.WordRow.{accepted-facts}
+use Rattle.evaluation.proofs.Promise.{rule-drives}
+
+module _ (t form : List ℕ) (n : ℕ) (kept : Kept t form n) (samples : List ℕ) (start driven : ℕ) (scratch : List ℕ)
+    (accepted : rowOutcome t samples start driven scratch ≡ Accepted) where
+  -- a scratch that has the words of its rows is all that the form still needs
+  pub form-accepted : (scratch′ : List ℕ) → length (take n form) * rowWords (length samples) ≤ length scratch′ → rowOutcome (take n form) samples start driven scratch′ ≡ Accepted
+  unfolding rowOutcome
+  form-accepted scratch′ room =
+      let f = accepted-facts t samples start driven scratch accepted in
+      judgeable-accepted (take n form) (length samples) start driven (length scratch′) (record {
+        accepted = kept .accepted;
+        some = f .some;
+        few = f .few;
+        inside = f .inside;
+        few-driven = f .few-driven;
+        letters = kept .driven driven (f .letters);
+        room = room;
+      })
+
+  -- the rows of both are the same, and with them all that is read off a row
+  pub same-truth : truth (lassoOf samples start driven) (rule (take n form)) ≡ truth (lassoOf samples start driven) (rule t)
+  same-truth = fun-ext (λ i.
+      let r : Lasso = lassoOf samples start driven in
+      T-same _ _ (Iff·trans (truth-holds r (rule (take n form)) i) (Iff·trans (kept .holds r (rule-drives t samples start driven scratch accepted) i) (Iff·symm (truth-holds r (rule t) i)))))
+
+  pub same-row : lastRow Accepted (take n form) samples start driven ≡ lastRow Accepted t samples start driven
+  unfolding lastRow rowOf
+  same-row = ap (row (length (lassoOf samples start driven .samples))) same-truth
+
+  pub same-judgement : judgement (truth (lassoOf samples start driven) (rule (take n form))) (length samples) ≡ judgement (truth (lassoOf samples start driven) (rule t)) (length samples)
+  same-judgement = ap (λ f. judgement f (length samples)) same-truth

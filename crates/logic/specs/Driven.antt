@@ -1,0 +1,20 @@
+-- The letters that a lasso drives, the formulas that it may be asked about, and lassos that agree on what they drive.
+use Prim.Native.Nat.{ℕ, _≤_}
+use mathlib.Core.Path.{_≡_}
+use Rattle.logic.specs.Formula.{Formula}
+use Rattle.logic.specs.Letters.{Letters}
+use Rattle.logic.specs.Lasso.{Lasso, letterIn, word}
+
+-- letter n is one of the letters 1 to k
+abbrev pub Driven : ℕ → ℕ → Type 0
+Driven k n = (1 ≤ n) × (n ≤ k)
+
+-- a lasso drives every letter of a formula
+abbrev pub Drives : Lasso → Formula → Type 0
+Drives r φ = Letters (Driven (r .driven)) φ
+
+-- two lassos, of any numbers of samples and any loop starts, drive the same letters and have the same driven bits at every position;
+-- the other bits may be anything
+pub record Agree (r r′ : Lasso) : Type 0 where
+  pub driven : r .driven ≡ r′ .driven
+  pub bits : (i n : ℕ) → Driven (r .driven) n → letterIn (word r i) n ≡ letterIn (word r′ i) n
