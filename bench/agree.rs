@@ -2,7 +2,7 @@
 // source 000, and on tables that are damaged in one place or two, with slices that are too short among the rest.
 use crate::hashmap::Refused;
 use crate::rules::{word, Rule};
-use crate::shapes::{mixed, recording, Numbers, PLAIN, WRITTEN};
+use crate::shapes::{mixed, recording, Numbers, FREE, PLAIN, WRITTEN};
 use crate::{hashmap, library, moments, typed};
 use std::collections::BTreeMap;
 use std::fmt::Debug;
@@ -73,6 +73,19 @@ fn forms(seen: &mut Seen, numbers: &mut Numbers, written: &[u32], plain: &[u32])
     }
 }
 
+fn dialects(seen: &mut Seen, numbers: &mut Numbers, most: usize) {
+    if !library::DIALECTS {
+        return;
+    }
+    for kinds in [&PLAIN[..], &FREE[..], &WRITTEN[..]] {
+        let n = 1 + numbers.next(most);
+        let table = damaged(numbers, mixed(n, kinds));
+        for room in [0, 1 + numbers.next(2 * n), 2 * n + 2, 16383, 20000] {
+            slices(seen, room, |s| library::dialect(&table, s), |s| hashmap::dialect(&table, s));
+        }
+    }
+}
+
 fn judges(seen: &mut Seen, numbers: &mut Numbers) {
     let n = 1 + numbers.next(80);
     let table = damaged(numbers, mixed(n, &WRITTEN));
@@ -107,6 +120,7 @@ pub fn all(rules: &[Rule]) -> Seen {
     }
     for turn in 0..1500 {
         checks(&mut seen, &mut numbers, if turn % 50 == 0 { 16400 } else { 140 });
+        dialects(&mut seen, &mut numbers, if turn % 50 == 0 { 16400 } else { 140 });
         judges(&mut seen, &mut numbers);
         texts(&mut seen, &mut numbers);
         let (n, m) = (1 + numbers.next(if turn % 20 == 0 { 70 } else { 20 }), 1 + numbers.next(if turn % 20 == 0 { 140 } else { 20 }));

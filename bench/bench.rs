@@ -12,7 +12,7 @@ mod typed;
 
 use library::Recording;
 use rules::Rule;
-use shapes::{mixed, noise, over_letters, recording, PLAIN, WRITTEN};
+use shapes::{mixed, noise, over_letters, recording, FREE, PLAIN, WRITTEN};
 use std::hint::black_box;
 use timing::{in_turn, least, least_ms, pair, ratio};
 
@@ -24,11 +24,12 @@ fn main() {
     println!("each figure the least of {} rounds after a warm-up; slices are lent again, not cleared between", timing::ROUNDS);
     let asked: Vec<String> = std::env::args().skip(1).collect();
     let rules = || rules::read(include_str!("rules.txt"));
-    let sections: [(&str, &str, &dyn Fn()); 7] = [
+    let sections: [(&str, &str, &dyn Fn()); 8] = [
         ("same", "the same replies and slices", &|| println!("calls by their reply, 0 for accepted: {:?}", agree::all(&rules()))),
         ("check", "check and plain form, beside the hash-map program", &short_steps),
         ("text", "reading texts, beside the hash-map program", &texts),
         ("form", "whole way and normal form, beside the hash-map program", &|| forms(rules())),
+        ("dialect", "the dialect without W and M, beside the hash-map program", &dialects),
         ("judge", "the judge", &judges),
         ("growth", "how cost grows", &growth),
         ("stack", "stack, bytes written to", &stacks),
@@ -159,6 +160,31 @@ fn normal_forms() {
     }
 }
 
+// Tables of all kinds, two words in seven W or M, up to the longest whose conversion fits whatever its words; and tables that are
+// renumbered only, up to the longest.
+fn dialects() {
+    if !library::DIALECTS {
+        return println!("the library has no C name for the dialect");
+    }
+    for (name, kinds, sizes) in [("kinds 5 to 11", &PLAIN[..], [64, 1024, 8190]), ("no W and M", &FREE[..], [64, 1024, 16383])] {
+        for n in sizes {
+            let table = mixed(n, kinds);
+            let (mut result, mut result2) = (vec![0; 16383], vec![0; 16383]);
+            let length = library::dialect(&table, &mut result);
+            assert_eq!(length, hashmap::dialect(&table, &mut result2));
+            assert!(result == result2, "the conversions are the same");
+            let ours = || library::dialect(black_box(&table), &mut result);
+            let theirs = || hashmap::dialect(black_box(&table), &mut result2);
+            let (o, t) = pair(ours, theirs);
+            let (o, t) = (o / n as f64, t / n as f64);
+            println!(
+                "dialect, {name}, {n} words to {}: hash map {t:.1} ns a word, here {o:.1} ns a word, ratio {:.2}",
+                length.expect("it fits"), o / t
+            );
+        }
+    }
+}
+
 // Kinds 5 to 11 mixed and loop start 0; the same over 32 letters at random, where few rows are constant; and written tables with a
 // later loop start.
 fn judges() {
@@ -249,6 +275,12 @@ fn stacks() {
     for n in [1, 64] {
         let table = shapes::deep(n, 0);
         println!("plain form, {n} words: {}", stack::bytes(|| library::plain_form(&table, &mut vec![0; PLAIN_ROOM]).unwrap()));
+    }
+    if library::DIALECTS {
+        for n in [1, 64, 512, 16383] {
+            let table = shapes::deep(n, 0);
+            println!("dialect, {n} words: {}", stack::bytes(|| library::dialect(&table, &mut vec![0; 16383]).unwrap()));
+        }
     }
     if library::TEXTS {
         let read = |text: &str| stack::bytes(|| library::text(text.as_bytes(), &mut vec![0; 64]));

@@ -236,6 +236,49 @@ pub fn normal_form(table: &[u32], result: &mut [u32]) -> Result<usize, Refused> 
     hand_over(form.map(|_| normal.out.words), result)
 }
 
+// The dialect without W and M: a W b is b R (a or b), and a M b is b U (a and b).
+pub fn dialect(table: &[u32], result: &mut [u32]) -> Result<usize, Refused> {
+    check(table, true, 16383)?;
+    let mut out = Numbering::new(result.len());
+    let form = convert(table, &mut out);
+    hand_over(form.map(|_| out.words), result)
+}
+
+// Words that wait for their operands' numbers stand on a stack of their own: a table can be 16,383 words deep.
+fn convert(table: &[u32], out: &mut Numbering) -> Result<(), Refused> {
+    let mut memo = vec![0; table.len() + 1];
+    let mut waiting = vec![table.len()];
+    while let Some(&j) = waiting.last() {
+        let w = table[j - 1];
+        let (a, b) = (left(w), right(w));
+        let operands = match kind(w) {
+            1..=4 => vec![],
+            X => vec![b],
+            W | M => vec![b, a],
+            _ => vec![a, b],
+        };
+        if let Some(&operand) = operands.iter().find(|&&operand| memo[operand] == 0) {
+            waiting.push(operand);
+            continue;
+        }
+        memo[j] = match kind(w) {
+            k @ 1..=4 => out.put(k, 0, b as u32)?,
+            X => out.put(X, 0, memo[b])?,
+            W => {
+                let either = out.put(OR, memo[a], memo[b])?;
+                out.put(R, memo[b], either)?
+            }
+            M => {
+                let both = out.put(AND, memo[a], memo[b])?;
+                out.put(U, memo[b], both)?
+            }
+            k => out.put(k, memo[a], memo[b])?,
+        };
+        waiting.pop();
+    }
+    Ok(())
+}
+
 // The whole way, from a written table.
 pub fn rule_form(table: &[u32], plain: &mut [u32], result: &mut [u32]) -> Result<usize, Refused> {
     let n = plain_form(table, plain)?;

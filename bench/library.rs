@@ -25,9 +25,15 @@ extern "C" {
     fn showrule_text(text: *const u8, bytes: usize, result: *mut u32, room: usize, table: *mut usize, place: *mut usize) -> u32;
 }
 
-// Whether the library has C names for the normal form and the whole way, and one for reading texts.
+#[cfg(dialects)]
+extern "C" {
+    fn showrule_dialect(table: *const u32, words: usize, result: *mut u32, room: usize, form: *mut usize, place: *mut usize) -> u32;
+}
+
+// Whether the library has C names for the normal form and the whole way, one for reading texts, and one for the dialect.
 pub const FORMS: bool = cfg!(forms);
 pub const TEXTS: bool = cfg!(texts);
+pub const DIALECTS: bool = cfg!(dialects);
 
 fn reply<T>(number: u32, place: usize, answer: T) -> Result<T, Refused> {
     if number == 0 { Ok(answer) } else { Err((number, place)) }
@@ -90,6 +96,18 @@ pub fn text(text: &[u8], result: &mut [u32]) -> Result<usize, Refused> {
 #[cfg(not(texts))]
 pub fn text(_: &[u8], _: &mut [u32]) -> Result<usize, Refused> {
     unreachable!("the library has no C name for reading texts")
+}
+
+#[cfg(dialects)]
+pub fn dialect(table: &[u32], result: &mut [u32]) -> Result<usize, Refused> {
+    let (mut form, mut place) = (0, 0);
+    let number = unsafe { showrule_dialect(table.as_ptr(), table.len(), result.as_mut_ptr(), result.len(), &mut form, &mut place) };
+    reply(number, place, form)
+}
+
+#[cfg(not(dialects))]
+pub fn dialect(_: &[u32], _: &mut [u32]) -> Result<usize, Refused> {
+    unreachable!("the library has no C name for the dialect")
 }
 
 // Samples, the loop start, and how many letters are driven.

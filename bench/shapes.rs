@@ -2,9 +2,10 @@
 use crate::rules;
 use crate::rules::word;
 
-// The operators of plain and of written tables.
+// The operators of plain and of written tables, and of the dialect without W and M.
 pub const PLAIN: [u32; 7] = [5, 6, 7, 8, 9, 10, 11];
 pub const WRITTEN: [u32; 11] = [5, 6, 7, 8, 9, 10, 11, 12, 13, 14, 15];
+pub const FREE: [u32; 5] = [5, 6, 7, 8, 10];
 
 // Numbers that look random.
 pub struct Numbers(pub u64);

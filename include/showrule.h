@@ -14,7 +14,8 @@
  *     judged and held.
  *   - A slice or number that is written lies apart from every other slice and number of the same call.
  *   - A bool is 0 or 1.
- *   - A call needs stack. 512 KB have been enough for the longest and the deepest rules (rust/showrule/tests/stack.rs tries them).
+ *   - A call needs stack. 512 KB have been enough for the longest and the deepest rules, and 1 MB for showrule_dialect, which has some
+ *     460 KB of arrays of its own for tables of over 512 words (rust/showrule/tests/stack.rs tries them).
  */
 #ifndef SHOWRULE_H
 #define SHOWRULE_H
@@ -56,7 +57,7 @@ enum {
 /* The most of each that a call takes. */
 enum {
     SHOWRULE_MOST_BYTES = 1024,       /* bytes of a text, for text */
-    SHOWRULE_MOST_WORDS = 16383,      /* words of a table, for check, class, judge and row */
+    SHOWRULE_MOST_WORDS = 16383,      /* words of a table, for check, class, dialect, judge and row */
     SHOWRULE_MOST_WRITTEN = 64,       /* words of a written table, for plain and form; text makes no longer one */
     SHOWRULE_MOST_PLAIN = 130,        /* words of a plain table, for normal; no plain form is longer */
     SHOWRULE_MOST_UNTIL_LIKE = 8,     /* until-like words of a plain table, for normal and form */
@@ -98,6 +99,14 @@ uint32_t showrule_plain(const uint32_t *table, size_t words, uint32_t *result, s
  * the result, and later words stay. Refused by 12, every word of the result is 0; refused otherwise, it is as it was. Refused,
  * *form_words is 0. A result counts for 16,383 words at most. */
 uint32_t showrule_normal(const uint32_t *table, size_t words, uint32_t *result, size_t room, size_t *form_words, size_t *place);
+
+/* The table of a plain table's conversion to the dialect without W and M: a W b becomes b R (a or b), and a M b becomes b U (a and b);
+ * a table that has neither is renumbered only. It takes at most 16,383 words, and makes checks 1 to 10, kinds 12 to 15 being 4, and 12.
+ * Accepted, *form_words is the conversion's length, its words, numbered by first need with sharing, are the first of the result, and
+ * later words stay; n words become at most 2 n + 2, but over 16,383 fit no slice. The result holds where the table does, passes checks 1
+ * to 10 as a plain table, and for each word of the table has one whose class byte is the same. Refused by 12, every word of the result
+ * is 0; refused otherwise, it is as it was. Refused, *form_words is 0. */
+uint32_t showrule_dialect(const uint32_t *table, size_t words, uint32_t *result, size_t room, size_t *form_words, size_t *place);
 
 /* The whole way, from a written table to its normal form: showrule_plain into the slice plain, then showrule_normal on exactly the words
  * that it answered. plain is left as showrule_plain leaves it. Where the plain form is refused, the number and the place are those of

@@ -7,7 +7,7 @@ ghost use Rattle.table.specs.Refusals.{outcomeNumber, outcomePlace};
 ghost use Rattle.table.specs.Limits.{desk};
 ghost use Rattle.table.specs.Checks.{checked};
 ghost use Rattle.row_words.specs.Row.{rowWords};
-ghost use Rattle.table.specs.Frame.{classStep, plainStep, normalStep, outcomeOf, answerOf, resultOf};
+ghost use Rattle.table.specs.Frame.{classStep, plainStep, normalStep, dialectStep, outcomeOf, answerOf, resultOf};
 ghost use Rattle.text.specs.Text.{textStep};
 ghost use Rattle.pipeline.specs.Whole.{wholeAnswer, wholeResult};
 ghost use Rattle.evaluation.specs.Judging.{judgeOutcome, rowOutcome, scratchAfter};
@@ -123,6 +123,22 @@ pub extern "C" fn showrule_form(
     ensures { λ r. ⌜ now (result .exit) ≡ wholeResult desk (now (table .entry)) (length (now (plain .entry))) (now (result .entry)) ⌝ }
 {
     form_reply(pipeline::normal_form(table, plain, result), words, place)
+}
+
+// The table of a plain table's conversion to the dialect without W and M, at the front of the result.
+#[no_mangle]
+pub extern "C" fn showrule_dialect(
+    table: &[u32],
+    result: &mut [u32],
+    words: &mut usize,
+    place: &mut usize,
+) -> u32
+    ensures { λ r. ⌜ FormReply
+        (answerOf dialectStep (now (table .entry)) (length (now (result .entry))))
+        r (now (words .exit)) (now (place .exit)) ⌝ }
+    ensures { λ r. ⌜ now (result .exit) ≡ resultOf dialectStep (now (table .entry)) (now (result .entry)) ⌝ }
+{
+    form_reply(dialect::convert(table, result), words, place)
 }
 
 fn judge_reply(

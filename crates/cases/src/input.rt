@@ -1,10 +1,10 @@
 // The runner's input: words, and the tables and recordings that a case is about.
 
-// A case in words, in this order: the step (1 check, 2 class, 3 plain form, 4 normal form, 5 whole way, 6 judge, 7 row call, 8 text); how
-// many words of a chain the table starts with, and how many are listed after it; the number of a word that is replaced (0: none), and the word;
-// the rooms of the lent slices; whether plain tables only, and the limit, of the check; the number of samples, the loop start, the driven
-// count, the tally, and the seed of the samples (0: they are listed). The listed words follow, of a text a byte a word, then the listed
-// samples.
+// A case in words, in this order: the step (1 check, 2 class, 3 plain form, 4 normal form, 5 whole way, 6 judge, 7 row call, 8 text,
+// 9 dialect); how many words of a chain the table starts with, and how many are listed after it; the number of a word that is replaced
+// (0: none), and the word; the rooms of the lent slices; whether plain tables only, and the limit, of the check; the number of samples,
+// the loop start, the driven count, the tally, and the seed of the samples (0: they are listed). The listed words follow, of a text a
+// byte a word, then the listed samples.
 pub struct Case {
     pub step: u32,
     pub chain: usize,

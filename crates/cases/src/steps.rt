@@ -95,6 +95,24 @@ fn form(c: Case, table: &[u32]) {
     sum::form(&result);
 }
 
+fn dialect(c: Case, table: &[u32]) {
+    let mut result = [0xEEEEEEEEu32; 16400];
+    let mut words: usize = 9;
+    let mut place: usize = 9;
+    let room = c.room;
+    if room <= 16400 {
+        let number = boundary::showrule_dialect(
+            table,
+            &mut result[0..room],
+            &mut words,
+            &mut place,
+        );
+        show::answer(number, place);
+    }
+    show::number(words);
+    sum::form(&result);
+}
+
 fn judge(c: Case, table: &[u32], samples: &[u32]) {
     let mut scratch = [18446744073709551615u64; 2100];
     let mut judged = c.judged;
@@ -170,7 +188,8 @@ fn call(c: Case, table: &[u32], samples: &[u32]) {
         5 => form(c, table),
         6 => judge(c, table, samples),
         7 => row(c, table, samples),
-        _ => text(c, table),
+        8 => text(c, table),
+        _ => dialect(c, table),
     }
     show::end();
 }

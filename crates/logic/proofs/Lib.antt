@@ -7,3 +7,4 @@ pub mod Letters
 pub mod Hierarchy
 pub mod Lasso
 pub mod Normal
+pub mod Dialect

@@ -21,7 +21,7 @@ use Rattle.table.specs.Limits.{plainLimit}
 use Rattle.table.specs.Checks.{tableChecks, checked}
 use Rattle.table.specs.Numbering.{room, fits}
 use Rattle.table.specs.StepChecks.{isFixpointWord, fixpointChecks, resultChecks}
-use Rattle.table.specs.Frame.{Step, outcomeOf, answerBy, answerOf, resultBy, resultOf, answerNumber, classStep, plainStep, normalStep}
+use Rattle.table.specs.Frame.{Step, outcomeOf, answerBy, answerOf, resultBy, resultOf, answerNumber, classStep, plainStep, normalStep, dialectStep}
 use Rattle.table.proofs.First.{first-append-accepted, first-append-refused, first-append-both, AllRefusals, first-refusal}
 use Rattle.table.proofs.Accepted.{table-refusal}
 
@@ -126,6 +126,10 @@ module _ (s : Step) (y : Early s) (t slice : List ℕ) where
 pub class-early : Early classStep
 unfolding checked
 class-early = record { early = λ t r e n. omega (arith, table-refusal true 16383 t r e) }
+
+pub dialect-early : Early dialectStep
+unfolding checked
+dialect-early = record { early = λ t r e n. omega (arith, table-refusal true 16383 t r e) }
 
 pub plain-early : (l : Limits) → Early (plainStep l)
 unfolding checked

@@ -14,7 +14,7 @@ use Rattle.table.specs.Refusals.{Check, first, reportOf, outcomeReport, 
 use Rattle.table.specs.Limits.{plainLimit, mostWords}
 use Rattle.table.specs.Checks.{tableChecks}
 use Rattle.table.specs.StepChecks.{fixpointChecks, resultChecks}
-use Rattle.table.specs.Steps.{classBytes, plainTable, normalTable}
+use Rattle.table.specs.Steps.{classBytes, plainTable, normalTable, dialectTable}
 
 -- what a step checks of a table before 12, and what it makes of one
 pub record Step : Type 0 where
@@ -30,6 +30,10 @@ plainStep l = record { checks = tableChecks false (l .written); makes = plainTab
 
 abbrev pub normalStep : Limits → Step
 normalStep l = record { checks = λ t. tableChecks true (plainLimit l) t ++ fixpointChecks (l .fixpoints) 1 t; makes = normalTable }
+
+-- document 02, N4
+abbrev pub dialectStep : Step
+dialectStep = record { checks = tableChecks true mostWords; makes = dialectTable }
 
 -- 12 is looked at last, for the slice that the words are to be written to
 unfoldable pub outcomeOf : Step → List ℕ → ℕ → Outcome

@@ -1,4 +1,4 @@
--- What each step makes of a table: the class bytes, the plain form's table and the normal form's table.
+-- What each step makes of a table: the class bytes, the plain form's table, the normal form's table and the table of the dialect without W and M.
 use Prim.Native.Nat.{ℕ}
 use mathlib.Core.Bool.{true}
 use mathlib.Core.List.{List, map}
@@ -6,6 +6,7 @@ use Rattle.logic.specs.Formula.{Formula}
 use Rattle.logic.specs.ClassByte.{classByte}
 use Rattle.logic.specs.NegationNormalForm.{plain}
 use Rattle.logic.specs.NormalForm.{keep, isFixpoint, normalForm}
+use Rattle.logic.specs.Dialect.{dialect}
 use Rattle.table.specs.Table.{formulas, rule}
 use Rattle.table.specs.Numbering.{tableOf}
 
@@ -22,3 +23,6 @@ fixpoints t = keep isFixpoint (formulas t)
 
 unfoldable pub normalTable : List ℕ → List ℕ
 normalTable t = tableOf (normalForm (fixpoints t) (rule t))
+
+unfoldable pub dialectTable : List ℕ → List ℕ
+dialectTable t = tableOf (dialect (rule t))

@@ -11,6 +11,8 @@ pub fn inputs() -> Vec<Input> {
     tables.extend([0, 1, 63, 64, 65, 129, 130, 131, 16_383, 16_384].map(chain_of_next));
     tables.extend([59, 60, 61].map(chain_of_ands));
     tables.extend((1..=10).flat_map(|k| [8, 9, 10, 11].map(|kind| chain_of(kind, k))));
+    // conversions as long as any slice counts for, and longer
+    tables.extend([8_190, 8_191].into_iter().flat_map(|k| [9, 11].map(|kind| chain_of(kind, k))));
     tables.extend(long_forms().into_iter().map(|(_, table)| table));
     let mut inputs = Vec::new();
     for (n, table) in (0..).zip(tables) {

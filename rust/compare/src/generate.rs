@@ -23,6 +23,7 @@ pub fn with_table(numbers: &mut Numbers, table: Vec<u32>) -> Input {
     let normal = reference.normal_form(&table).map_or(0, |form| form.len());
     let plain_bits: Vec<u32> = plain.iter().map(|w| w.bits()).collect();
     let form = reference.normal_form(&plain_bits).map_or(0, |form| form.len());
+    let dialect = steps::dialect_table(&table).map_or(0, |words| words.len());
     let samples = samples(numbers, table.len());
     let rows = table.len() * samples.len().div_ceil(64);
     let (judged, held) = tally(numbers);
@@ -38,6 +39,7 @@ pub fn with_table(numbers: &mut Numbers, table: Vec<u32>) -> Input {
         bytes: room(numbers, table.len()),
         plain: room(numbers, plain.len()),
         normal: room(numbers, normal),
+        dialect: room(numbers, dialect),
         form_plain: if numbers.once_in(6) { room(numbers, plain.len()) } else { 130 },
         form: room(numbers, form),
         start: start(numbers, samples.len()),

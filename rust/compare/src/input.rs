@@ -13,9 +13,10 @@ pub struct Input {
     pub limit: usize,
     /// Of the class step.
     pub bytes: usize,
-    /// Of the plain-form step, of the normal-form step, and the two of the whole way.
+    /// Of the plain-form step, of the normal-form step, of the dialect, and the two of the whole way.
     pub plain: usize,
     pub normal: usize,
+    pub dialect: usize,
     pub form_plain: usize,
     pub form: usize,
     /// Of the judge and the row call.
@@ -43,7 +44,8 @@ impl Input {
 
     /// What shrinking makes smaller.
     pub fn size(&self) -> (usize, usize, usize, u64) {
-        let rooms = self.text_table + self.bytes + self.plain + self.normal + self.form_plain + self.form + self.scratch;
+        let rooms = self.text_table + self.bytes + self.plain + self.normal + self.dialect;
+        let rooms = rooms + self.form_plain + self.form + self.scratch;
         let words: u64 = self.table.iter().map(|&w| w as u64).sum::<u64>() + self.text.iter().map(|&b| b as u64).sum::<u64>();
         let rest = self.start as u64
             + self.driven.min(1 << 40) as u64
@@ -64,8 +66,8 @@ impl fmt::Display for Input {
         writeln!(f, "check: plain only {}, limit {}", self.plain_only, self.limit)?;
         writeln!(
             f,
-            "rooms: bytes {}, plain {}, normal {}, whole way {} and {}, scratch {}",
-            self.bytes, self.plain, self.normal, self.form_plain, self.form, self.scratch
+            "rooms: bytes {}, plain {}, normal {}, dialect {}, whole way {} and {}, scratch {}",
+            self.bytes, self.plain, self.normal, self.dialect, self.form_plain, self.form, self.scratch
         )?;
         let (samples, start, driven) = (self.samples.len(), self.start, self.driven);
         writeln!(f, "recording of {samples} samples, loop start {start}, {driven} letters driven:{}", hex(&self.samples))?;

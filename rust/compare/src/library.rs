@@ -23,6 +23,7 @@ pub trait Library {
     fn text(&self, text: &[u8], result: &mut [u32], words: &mut usize, place: &mut usize) -> u32;
     fn plain(&self, table: &[u32], result: &mut [u32], words: &mut usize, place: &mut usize) -> u32;
     fn normal(&self, table: &[u32], result: &mut [u32], words: &mut usize, place: &mut usize) -> u32;
+    fn dialect(&self, table: &[u32], result: &mut [u32], words: &mut usize, place: &mut usize) -> u32;
     fn form(&self, table: &[u32], plain: &mut [u32], result: &mut [u32], words: &mut usize, place: &mut usize) -> u32;
     fn judge(&self, table: &[u32], recording: Recording, scratch: &mut [u64], lent: &mut Lent, place: &mut usize) -> u32;
     fn row(
@@ -57,6 +58,10 @@ impl Library for Product {
 
     fn normal(&self, table: &[u32], result: &mut [u32], words: &mut usize, place: &mut usize) -> u32 {
         unsafe { ffi::showrule_normal(table.as_ptr(), table.len(), result.as_mut_ptr(), result.len(), words, place) }
+    }
+
+    fn dialect(&self, table: &[u32], result: &mut [u32], words: &mut usize, place: &mut usize) -> u32 {
+        unsafe { ffi::showrule_dialect(table.as_ptr(), table.len(), result.as_mut_ptr(), result.len(), words, place) }
     }
 
     fn form(&self, table: &[u32], plain: &mut [u32], result: &mut [u32], words: &mut usize, place: &mut usize) -> u32 {
@@ -159,6 +164,10 @@ impl Library for Reference {
 
     fn normal(&self, table: &[u32], result: &mut [u32], words: &mut usize, place: &mut usize) -> u32 {
         words_told(steps::write(self.normal_form(table), result), words, place)
+    }
+
+    fn dialect(&self, table: &[u32], result: &mut [u32], words: &mut usize, place: &mut usize) -> u32 {
+        words_told(steps::dialect(table, result), words, place)
     }
 
     fn form(&self, table: &[u32], plain: &mut [u32], result: &mut [u32], words: &mut usize, place: &mut usize) -> u32 {

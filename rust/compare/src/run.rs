@@ -1,11 +1,14 @@
 //! Runs every step of a library on an input, and says where two libraries differ.
 use crate::input::Input;
 use crate::library::{Lent, Library};
-use reference::forest::Forest;
+use reference::dialect::convert;
+use reference::forest::{Forest, Tree};
 use reference::listing::bits;
 use reference::recording::Recording;
 use reference::steps::check as checked;
 use reference::text::{show, shown_bytes};
+use reference::word::MOST_WORDS;
+use std::collections::HashMap;
 use std::fmt;
 
 /// What a call answered and left: the number, the lent numbers, and all memory that it could have reached.
@@ -63,6 +66,7 @@ fn seen(library: &dyn Library, input: &Input) -> Vec<Seen> {
         text(library, input),
         plain(library, input),
         normal(library, input),
+        dialect(library, input),
         form(library, input),
         judge(library, input, "judge", input.recording()),
         row(library, input, "row", input.recording()),
@@ -104,6 +108,13 @@ fn normal(library: &dyn Library, input: &Input) -> Seen {
     Seen { step: "normal form", number, lent: vec![made as u64, place as u64], memory: held(&result) }
 }
 
+fn dialect(library: &dyn Library, input: &Input) -> Seen {
+    let mut result = words(input.dialect);
+    let (mut made, mut place) = (BEFORE, BEFORE);
+    let number = library.dialect(&input.table, result.slice(), &mut made, &mut place);
+    Seen { step: "dialect", number, lent: vec![made as u64, place as u64], memory: held(&result) }
+}
+
 fn form(library: &dyn Library, input: &Input) -> Seen {
     let (mut plain, mut result) = (words(input.form_plain), words(input.form));
     let (mut made, mut place) = (BEFORE, BEFORE);
@@ -136,23 +147,66 @@ fn agreement(library: &dyn Library, input: &Input) -> Seen {
     let mut lent = AGREED.to_vec();
     let form_made = library.form(&input.table, &mut plain, &mut result, &mut made, &mut place) == 0;
     if form_made && (1..=4_096).contains(&input.samples.len()) && made * input.samples.len() < 400_000 {
-        let start = input.start % input.samples.len();
-        // the recording drives every letter of the rule, and no other where the count is below
-        let driven = input.driven.min(32).max(highest_letter(&input.table));
-        let mut bytes = vec![0; made];
-        library.classify(&result[..made], &mut bytes, &mut place);
-        let of = |table: &[u32]| {
-            let mut scratch = vec![0; table.len() * input.samples.len().div_ceil(64)];
-            let (mut from, mut long, mut place) = (0, 0, 0);
-            let recording = Recording { samples: &input.samples, start, driven };
-            let number = library.row(table, recording, &mut scratch, &mut from, &mut long, &mut place);
-            (number, scratch[from..from + long].to_vec())
-        };
-        let (rule, form) = (of(&input.table), of(&result[..made]));
-        lent = vec![(rule == form && rule.0 == 0) as u64, (bytes[made - 1] >> 6 & 1).into()];
+        let class = classes(library, &result[..made])[made - 1];
+        lent = vec![same_truth(library, input, &result[..made]) as u64, (class >> 6 & 1).into()];
     }
     Seen { step: AGREEMENT, number: 0, lent, memory: vec![] }
 }
+
+/// Whether a table holds where the input's does, over a recording that drives every letter of the input's table, and no other where the
+/// input's count is below.
+fn same_truth(library: &dyn Library, input: &Input, other: &[u32]) -> bool {
+    let (samples, start) = (&input.samples, input.start % input.samples.len());
+    let driven = input.driven.min(32).max(highest_letter(&input.table));
+    let of = |table: &[u32]| {
+        let mut scratch = vec![0; table.len() * samples.len().div_ceil(64)];
+        let (mut from, mut long, mut place) = (0, 0, 0);
+        let recording = Recording { samples, start, driven };
+        let number = library.row(table, recording, &mut scratch, &mut from, &mut long, &mut place);
+        (number, scratch[from..from + long].to_vec())
+    };
+    let (rule, other) = (of(&input.table), of(other));
+    rule == other && rule.0 == 0
+}
+
+fn classes(library: &dyn Library, table: &[u32]) -> Vec<u8> {
+    let mut bytes = vec![0; table.len()];
+    library.classify(table, &mut bytes, &mut 0);
+    bytes
+}
+
+/// What N4 says of a conversion, tried: it passes the checks of a plain table and has no word of kind 9 or 11; converted again it is
+/// the same; for each word of the source it has one whose class byte has every bit of that word's; and it holds where the source does.
+fn conversion(library: &dyn Library, input: &Input) -> Seen {
+    let mut lent = CONVERTED.to_vec();
+    if let Some(converted) = converted(library, &input.table) {
+        let free = checked(&converted, true, MOST_WORDS).is_ok() && !converted.iter().any(|word| matches!(word >> 28, 9 | 11));
+        let again = self::converted(library, &converted).as_ref() == Some(&converted);
+        let judged = (1..=4_096).contains(&input.samples.len()) && converted.len() * input.samples.len() < 30_000;
+        let truth = !judged || same_truth(library, input, &converted);
+        lent = [free, again, free && classes_kept(library, &input.table, &converted), truth].map(u64::from).to_vec();
+    }
+    Seen { step: CONVERSION, number: 0, lent, memory: vec![] }
+}
+
+fn converted(library: &dyn Library, table: &[u32]) -> Option<Vec<u32>> {
+    let mut result = vec![0; MOST_WORDS];
+    let (mut made, mut place) = (0, 0);
+    let number = library.dialect(table, &mut result, &mut made, &mut place);
+    result.truncate(made);
+    (number == 0).then_some(result)
+}
+
+fn classes_kept(library: &dyn Library, table: &[u32], converted: &[u32]) -> bool {
+    let mut forest = Forest::new();
+    let trees = forest.of_table(table);
+    let conversions = convert(&mut forest, &trees);
+    let made: HashMap<Tree, u8> = forest.of_table(converted).into_iter().zip(classes(library, converted)).collect();
+    conversions.iter().zip(classes(library, table)).all(|(tree, byte)| made.get(tree).is_some_and(|made| byte & !made == 0))
+}
+
+const CONVERSION: &str = "conversion free, the same again, of the same classes, and true where the table is";
+const CONVERTED: [u64; 4] = [1, 1, 1, 1];
 
 fn highest_letter(table: &[u32]) -> usize {
     let letters = table.iter().filter(|&word| matches!(word >> 28, 3 | 4));
@@ -214,8 +268,11 @@ pub fn compare(
 ) -> Result<Vec<(&'static str, u32)>, Box<Difference>> {
     let agreed = Seen { step: AGREEMENT, number: 0, lent: AGREED.to_vec(), memory: vec![] };
     let came_back = Seen { step: ROUND_TRIP, number: 0, lent: CAME_BACK.to_vec(), memory: vec![] };
+    let as_said = || Seen { step: CONVERSION, number: 0, lent: CONVERTED.to_vec(), memory: vec![] };
     let of_product = [(agreement(product, input), agreed), (round_trip(product, input), came_back)];
-    let steps = seen(product, input).into_iter().zip(seen(reference, input)).chain(of_product).chain(redriven(product, input));
+    let of_both = [(conversion(product, input), as_said()), (conversion(reference, input), as_said())];
+    let steps = seen(product, input).into_iter().zip(seen(reference, input)).chain(of_product).chain(of_both);
+    let steps = steps.chain(redriven(product, input));
     let same = |(product, reference): (Seen, Seen)| {
         if product == reference {
             Ok((product.step, product.number))

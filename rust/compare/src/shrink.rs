@@ -13,11 +13,12 @@ pub fn smallest(mut input: Input, differs: impl Fn(&Input) -> bool) -> Input {
     }
 }
 
-const ROOMS: [fn(&mut Input) -> &mut usize; 7] = [
+const ROOMS: [fn(&mut Input) -> &mut usize; 8] = [
     |i| &mut i.text_table,
     |i| &mut i.bytes,
     |i| &mut i.plain,
     |i| &mut i.normal,
+    |i| &mut i.dialect,
     |i| &mut i.form_plain,
     |i| &mut i.form,
     |i| &mut i.scratch,

@@ -26,6 +26,7 @@ enum Fault {
     HighestUndriven,
     UndrivenRead,
     UndrivenCounted,
+    NotRenumbered,
 }
 
 impl Library for Faulty {
@@ -72,6 +73,15 @@ impl Library for Faulty {
         if self.fault == Fault::GuardWritten && number == 0 && *words == result.len() {
             // SAFETY: the comparison lends the middle of a larger memory
             unsafe { *result.as_mut_ptr().add(result.len()) = 0 };
+        }
+        number
+    }
+
+    fn dialect(&self, table: &[u32], result: &mut [u32], words: &mut usize, place: &mut usize) -> u32 {
+        let number = self.right.dialect(table, result, words, place);
+        // a table that needs no other words is handed back as it is
+        if self.fault == Fault::NotRenumbered && number == 0 && *words == table.len() {
+            result[..*words].copy_from_slice(table);
         }
         number
     }
@@ -140,6 +150,7 @@ fn faults_are_found_and_made_small() {
         Fault::HighestUndriven,
         Fault::UndrivenRead,
         Fault::UndrivenCounted,
+        Fault::NotRenumbered,
     ] {
         let smallest = found(fault);
         assert!(smallest.table.len() <= 3, "{smallest}");

@@ -6,6 +6,7 @@
 
 pub mod checks;
 pub mod class;
+pub mod dialect;
 pub mod edges;
 pub mod forest;
 pub mod listing;

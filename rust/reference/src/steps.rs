@@ -1,6 +1,7 @@
 //! Every step as a desk calls it: the reply, and what each lent slice holds afterwards, refused calls included.
 use crate::checks::{fits, until_like, Faults, Refusal};
 use crate::class::Classes;
+use crate::dialect::convert;
 use crate::forest::Forest;
 use crate::listing::list;
 use crate::normal::normal as normal_tree;
@@ -75,6 +76,15 @@ pub fn normal_form(table: &[u32]) -> Result<Vec<Word>, Refusal> {
     Ok(list(&forest, form))
 }
 
+/// The table in the dialect without W and M (document 02, N4), by every check but 12.
+pub fn dialect_table(table: &[u32]) -> Result<Vec<Word>, Refusal> {
+    check(table, true, MOST_WORDS)?;
+    let mut forest = Forest::new();
+    let trees = forest.of_table(table);
+    let converted = convert(&mut forest, &trees);
+    Ok(list(&forest, converted[converted.len() - 1]))
+}
+
 /// Writes a table to the front of a slice: check 12.
 pub fn write(table: Result<Vec<Word>, Refusal>, result: &mut [u32]) -> Result<usize, Refusal> {
     let words = table?;
@@ -95,6 +105,10 @@ pub fn plain(table: &[u32], result: &mut [u32]) -> Result<usize, Refusal> {
 
 pub fn normal(table: &[u32], result: &mut [u32]) -> Result<usize, Refusal> {
     write(normal_form(table), result)
+}
+
+pub fn dialect(table: &[u32], result: &mut [u32]) -> Result<usize, Refusal> {
+    write(dialect_table(table), result)
 }
 
 /// The whole way: the normal-form step is handed exactly the words that the plain-form step answered.

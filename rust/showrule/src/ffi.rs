@@ -33,6 +33,15 @@ extern "C" {
         place: *mut usize,
     ) -> u32;
 
+    pub fn showrule_dialect(
+        table: *const u32,
+        words: usize,
+        result: *mut u32,
+        room: usize,
+        form_words: *mut usize,
+        place: *mut usize,
+    ) -> u32;
+
     pub fn showrule_form(
         table: *const u32,
         words: usize,

@@ -162,6 +162,26 @@ pub fn normal_form<'a>(table: &[u32], result: &'a mut [u32]) -> Result<&'a [u32]
     Ok(&result[..words])
 }
 
+/// The table of a plain table's conversion to the dialect without W and M, the front part of `result`: a W b becomes b R (a or b), and
+/// a M b becomes b U (a and b); a table that has neither is renumbered only. What stands past it stays. It takes up to 16,383 words, and
+/// n words become at most 2 n + 2. Refused as 12, every word of the slice is 0; refused otherwise, it is as it was. A table of over 512
+/// words takes some 460 KB of stack.
+///
+/// ```
+/// // p1 W p2 is p2 R (p1 or p2)
+/// let weak = [0x3000_0001, 0x3000_0002, 0x9000_4002];
+/// let mut result = [0; 8];
+/// assert_eq!(showrule::dialect(&weak, &mut result)?, [0x3000_0002, 0x3000_0001, 0x6000_8001, 0xA000_4003]);
+/// # Ok::<(), showrule::Refusal>(())
+/// ```
+pub fn dialect<'a>(table: &[u32], result: &'a mut [u32]) -> Result<&'a [u32], Refusal> {
+    let (mut words, mut place) = (0, 0);
+    let number =
+        unsafe { ffi::showrule_dialect(table.as_ptr(), table.len(), result.as_mut_ptr(), result.len(), &mut words, &mut place) };
+    Call { table, limit: MOST_WORDS, room: result.len(), ..Call::default() }.answer(number, place)?;
+    Ok(&result[..words])
+}
+
 /// The whole way: the plain form of a written table at the front of `plain`, and the normal form of exactly those words, the front
 /// part of `result`. What stands past them stays. Where a form does not fit its slice (12), every word of that slice is 0; where the
 /// plain form is refused, `result` is as it was; after 11 and 12 for `result`, the plain form stands in `plain`.

@@ -16,6 +16,8 @@ fn empty_slices() {
         assert_eq!(showrule_plain(null(), 0, null_mut(), 0, &mut words, &mut place), 1);
         assert_eq!(showrule_plain(letter.as_ptr(), 1, null_mut(), 0, &mut words, &mut place), 12);
         assert_eq!(showrule_normal(letter.as_ptr(), 1, null_mut(), 0, &mut words, &mut place), 12);
+        assert_eq!((showrule_dialect(null(), 0, null_mut(), 0, &mut words, &mut place), words, place), (1, 0, 0));
+        assert_eq!((showrule_dialect(letter.as_ptr(), 1, null_mut(), 0, &mut words, &mut place), words, place), (12, 0, 0));
         assert_eq!(showrule_form(letter.as_ptr(), 1, null_mut(), 0, null_mut(), 0, &mut words, &mut place), 12);
         let mut plain = [0u32; 1];
         assert_eq!(showrule_form(letter.as_ptr(), 1, plain.as_mut_ptr(), 1, null_mut(), 0, &mut words, &mut place), 12);

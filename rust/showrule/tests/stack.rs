@@ -1,9 +1,14 @@
-//! A thread with 512 KB of stack is enough for every call, as include/showrule.h says: the longest tables, the deepest ones, and
-//! eight until-like words.
+//! A thread with 512 KB of stack is enough for every call but `dialect`, and one with 1 MB for that, as include/showrule.h says: the longest
+//! tables, the deepest ones, and eight until-like words.
 use showrule::*;
 
 fn on_small_stack(work: impl FnOnce() + Send + 'static) {
-    std::thread::Builder::new().stack_size(512 << 10).spawn(work).expect("a thread").join().expect("it ends well");
+    on_stack(512, work);
+}
+
+/// So many KB.
+fn on_stack(size: usize, work: impl FnOnce() + Send + 'static) {
+    std::thread::Builder::new().stack_size(size << 10).spawn(work).expect("a thread").join().expect("it ends well");
 }
 
 /// Letter 1, then a word over the one before, and itself where it has two operands.
@@ -24,6 +29,20 @@ fn longest_tables() {
         assert!(judge(&table, recording, &mut scratch, &mut Tally::default()).unwrap().holds);
         assert_eq!(row(&table, Recording { start: 0, ..recording }, &mut scratch).unwrap().len(), 64);
     });
+}
+
+#[test]
+fn longest_conversions() {
+    let (next, mut result) = (chain(16_383, 7), vec![0; 16_383]);
+    on_stack(1_024, move || assert_eq!(dialect(&next, &mut result).unwrap(), next));
+    for kind in [9, 11] {
+        // a word over itself is two words of the dialect
+        let (table, mut result) = (chain(8_192, kind), vec![0; 16_384]);
+        on_stack(1_024, move || {
+            assert_eq!(dialect(&table, &mut result).unwrap().len(), 16_383);
+            assert_eq!(dialect(&table, &mut result[..16_382]), Err(Refusal::ResultTooShort { room: 16_382 }));
+        });
+    }
 }
 
 #[test]

@@ -14,6 +14,7 @@ pub enum Step {
     Judge,
     Row,
     Text,
+    Dialect,
 }
 
 #[derive(Clone)]
@@ -126,6 +127,11 @@ impl Case {
             Step::Normal => {
                 let mut result = vec![0xEEEE_EEEE; 16_400];
                 let made = steps::normal(&table, &mut result[..self.room]);
+                format!("{}, {}{}", answer(&made), made.unwrap_or(0), words(&result))
+            }
+            Step::Dialect => {
+                let mut result = vec![0xEEEE_EEEE; 16_400];
+                let made = steps::dialect(&table, &mut result[..self.room]);
                 format!("{}, {}{}", answer(&made), made.unwrap_or(0), words(&result))
             }
             Step::Form => {

@@ -20,7 +20,7 @@ pub fn cases() -> Vec<Case> {
 }
 
 /// A room that is enough, the exact one, one less, and none.
-fn rooms(length: usize, enough: usize) -> Vec<usize> {
+pub fn rooms(length: usize, enough: usize) -> Vec<usize> {
     let mut rooms = vec![enough, length, length.saturating_sub(1), 0];
     rooms.dedup();
     rooms
@@ -73,7 +73,7 @@ fn tables() -> Vec<(String, Vec<u32>)> {
 }
 
 /// A word of the kind over letters 1 and 2, under so many nots.
-fn denied(kind: u32, nots: usize) -> Vec<u32> {
+pub fn denied(kind: u32, nots: usize) -> Vec<u32> {
     let mut words = match kind {
         1 | 2 => vec![Word::new(kind, 0, 0)],
         3 | 4 => vec![Word::new(kind, 0, 1)],

@@ -3,6 +3,7 @@
 //!     cases FOLDER        as: cargo run --release --offline -p reference --bin cases ../crates/cases
 //!     cases FOLDER list   prints the label of each case, a line for each line of stdout
 mod case;
+mod dialect;
 mod forms;
 mod judging;
 mod tables;
@@ -14,7 +15,7 @@ use std::{env, fs, path::Path};
 fn main() {
     let folder = env::args().nth(1).expect("usage: cases FOLDER");
     let folder = Path::new(&folder);
-    let cases: Vec<Case> = [tables::cases(), forms::cases(), judging::cases(), texts::cases()].concat();
+    let cases: Vec<Case> = [tables::cases(), forms::cases(), judging::cases(), texts::cases(), dialect::cases()].concat();
     if env::args().nth(2).is_some() {
         cases.iter().for_each(|case| println!("{}", case.label));
         return;

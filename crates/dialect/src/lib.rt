@@ -1,0 +1,53 @@
+// The dialect without W and M: a plain table goes in, and the table of its conversion comes out at the front of the result.
+use placing::put;
+use table::answer::Answer;
+use table::refusal::Outcome;
+use table::refusal::Refusal;
+ghost use mathlib.Core.Path.{_≡_};
+ghost use mathlib.Core.Bool.{true};
+ghost use lib.ListN.{length};
+ghost use Rattle.table.specs.declared.refusal.Outcome.the-variants as outcome;
+ghost use Rattle.table.specs.Checks.{checked};
+ghost use Rattle.table.specs.Frame.{dialectStep, answerOf, resultOf};
+ghost use Rattle.dialect.specs.Written.{Written};
+
+mod filling;
+mod rooms;
+
+// The table's length, or why there is none.
+pub fn convert(table: &[u32], result: &mut [u32]) -> Answer
+    ensures { λ r. ⌜ r ≡ answerOf dialectStep (now (table .entry)) (length (now (result .entry))) ⌝ }
+    ensures { λ r. ⌜ now (result .exit) ≡ resultOf dialectStep (now (table .entry)) (now (result .entry)) ⌝ }
+{
+    match reading::check(table, true, 16383) {
+        Outcome::Refused(r) => Answer::Refused(r),
+        Outcome::Accepted => {
+            let n = write(table, &mut *result);
+            if n == 0 {
+                put::clear(result);
+                return Answer::Refused(Refusal::ResultTooShort);
+            }
+            Answer::Made(n)
+        }
+    }
+}
+
+// The table at the front of the result, and its length; 0 where it does not fit. It has no more words than the draft has slots, so no
+// more of the result is lent. That the function calls itself also keeps the arrays of the rooms out of its frame: the compiler joins no
+// function with large arrays to one that calls itself.
+fn write(table: &[u32], result: &mut [u32]) -> usize
+    requires { ⌜ checked true 16383 (now table) ≡ outcome.Accepted ⌝ }
+    ensures { λ r. ⌜ Written (now (table .entry)) (now (result .entry)) (now (result .exit)) r ⌝ }
+{
+    let slots = 2 * table.len() + 2;
+    if slots < result.len() {
+        return write(table, &mut result[..slots]);
+    }
+    if table.len() <= 64 {
+        return rooms::of_64(table, result);
+    }
+    if table.len() <= 512 {
+        return rooms::of_512(table, result);
+    }
+    rooms::of_16383(table, result)
+}

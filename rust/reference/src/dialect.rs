@@ -1,0 +1,25 @@
+//! The dialect without W and M (document 02, N4): a W b becomes b R (a or b), and a M b becomes b U (a and b).
+use crate::forest::{Forest, Node, Tree};
+use std::collections::HashMap;
+
+/// The conversion of each of these trees, which are plain; operands come before what is made of them.
+pub fn convert(forest: &mut Forest, trees: &[Tree]) -> Vec<Tree> {
+    let mut converted: HashMap<Tree, Tree> = HashMap::new();
+    for &tree in trees {
+        let of = |operand: Tree| converted[&operand];
+        let node = match forest.node(tree) {
+            Node::Weak(a, b) => Node::Release(of(b), forest.grow(Node::Or(of(a), of(b)))),
+            Node::Strong(a, b) => Node::Until(of(b), forest.grow(Node::And(of(a), of(b)))),
+            Node::And(a, b) => Node::And(of(a), of(b)),
+            Node::Or(a, b) => Node::Or(of(a), of(b)),
+            Node::Next(a) => Node::Next(of(a)),
+            Node::Until(a, b) => Node::Until(of(a), of(b)),
+            Node::Release(a, b) => Node::Release(of(a), of(b)),
+            Node::Not(_) | Node::Finally(_) | Node::Globally(_) | Node::Implies(..) => panic!("a plain rule"),
+            leaf => leaf,
+        };
+        let conversion = forest.grow(node);
+        converted.insert(tree, conversion);
+    }
+    trees.iter().map(|tree| converted[tree]).collect()
+}
