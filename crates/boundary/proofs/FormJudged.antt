@@ -8,13 +8,13 @@ use Rattle.logic.specs.Lasso.{Lasso}
 use Rattle.logic.specs.Truth.{truth}
 use Rattle.logic.proofs.Tests.{T-same}
 use Rattle.logic.proofs.Lasso.Truth.{truth-holds}
-use Rattle.table.specs.declared.refusal.Outcome.the-variants.{Accepted}
+use Rattle.refusals.specs.declared.Outcome.the-variants.{Accepted}
 use Rattle.table.specs.Table.{rule}
 use Rattle.row_words.specs.Row.{row, rowWords}
 use Rattle.pipeline.specs.Claim.{Kept}
 use Rattle.evaluation.specs.Judging.{lassoOf, rowOf, judgement, rowOutcome, lastRow}
 use Rattle.judge_checks.proofs.Outcomes.{judgeable-accepted}
-use Rattle.evaluation.proofs.WordRow.{accepted-facts}
+use Rattle.evaluation.proofs.Accepted.{accepted-facts}
 use Rattle.evaluation.proofs.Promise.{rule-drives}
 
 module _ (t form : List ℕ) (n : ℕ) (kept : Kept t form n) (samples : List ℕ) (start driven : ℕ) (scratch : List ℕ)

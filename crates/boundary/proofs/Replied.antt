@@ -2,14 +2,14 @@
 use Prim.Native.Nat.{ℕ, _-_, _*_}
 use mathlib.Core.Path.{_≡_, sym, ap, subst, _∙_}
 use mathlib.Core.List.{List}
-use Rattle.table.specs.declared.refusal.Outcome.{Outcome}
-use Rattle.table.specs.declared.refusal.Outcome.the-variants.{Accepted, Refused}
-use Rattle.table.specs.declared.refusal.Refusal.{Refusal}
-use Rattle.table.specs.Refusals.{numberOf, placeOf, outcomeNumber, outcomePlace}
+use Rattle.refusals.specs.declared.Outcome.{Outcome}
+use Rattle.refusals.specs.declared.Outcome.the-variants.{Accepted, Refused}
+use Rattle.refusals.specs.declared.Refusal.{Refusal}
+use Rattle.refusals.specs.Refusals.{numberOf, placeOf, outcomeNumber, outcomePlace}
 use Rattle.row_words.specs.Row.{rowWords}
 use Rattle.table.specs.declared.answer.Answer.{Answer}
 use Rattle.evaluation.specs.Judging.{scratchAfter}
-use Rattle.boundary.specs.Replies.{FormReply, RowReply, rowFrom, rowLength}
+use Rattle.replies.specs.Replies.{FormReply, RowReply, rowFrom, rowLength}
 
 pub form-replied : {a b : Answer} {number words place : ℕ} → a ≡ b → FormReply a number words place → FormReply b number words place
 form-replied {number = number} {words = words} {place = place} e r = subst (λ (x : Answer). FormReply x number words place) e r

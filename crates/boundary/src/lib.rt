@@ -3,33 +3,21 @@
 ghost use mathlib.Core.Path.{_≡_};
 ghost use Prim.Native.Nat.{min};
 ghost use lib.ListN.{length};
-ghost use Rattle.table.specs.Refusals.{outcomeNumber, outcomePlace};
+ghost use Rattle.refusals.specs.Refusals.{outcomeNumber, outcomePlace};
 ghost use Rattle.table.specs.Limits.{desk};
 ghost use Rattle.table.specs.Checks.{checked};
-ghost use Rattle.row_words.specs.Row.{rowWords};
 ghost use Rattle.table.specs.Frame.{classStep, plainStep, normalStep, dialectStep, outcomeOf, answerOf, resultOf};
 ghost use Rattle.text.specs.Text.{textStep};
 ghost use Rattle.pipeline.specs.Whole.{wholeAnswer, wholeResult};
 ghost use Rattle.evaluation.specs.Judging.{judgeOutcome, rowOutcome, scratchAfter};
 ghost use Rattle.evaluation.specs.Judging.{reply as judgeReply};
-ghost use Rattle.boundary.specs.Replies.{FormReply, RowReply};
-ghost use Rattle.evaluation.specs.Answers.{said};
-ghost use Rattle.boundary.specs.Replies.{JudgeReply};
-use evaluation::answer::Judgement;
-use judge_checks::tally::Tally;
-use table::answer;
-use table::answer::Answer;
-use table::refusal;
-use table::refusal::Outcome;
-
-fn reply(o: Outcome, place: &mut usize) -> u32
-    ensures { λ r. ⌜ r ≡ outcomeNumber o ⌝ }
-    ensures { λ r. ⌜ now (place .exit) ≡ outcomePlace o ⌝ }
-{
-    let report = refusal::outcome_report(o);
-    *place = report.1;
-    report.0
-}
+ghost use Rattle.replies.specs.Replies.{FormReply, JudgeReply, RowReply};
+use refusals::Outcome;
+use replies::form_reply;
+use replies::judge_reply;
+use replies::reply;
+use replies::row_words;
+use tally::Tally;
 
 #[no_mangle]
 pub extern "C" fn showrule_check(table: &[u32], plain: bool, limit: usize, place: &mut usize) -> u32
@@ -47,16 +35,6 @@ pub extern "C" fn showrule_classify(table: &[u32], bytes: &mut [u8], place: &mut
     ensures { λ r. ⌜ now (bytes .exit) ≡ resultOf classStep (now (table .entry)) (now (bytes .entry)) ⌝ }
 {
     reply(classes::classify(table, bytes), place)
-}
-
-// How many words a form has, or the refusal, in lent numbers.
-fn form_reply(a: Answer, words: &mut usize, place: &mut usize) -> u32
-    ensures { λ r. ⌜ FormReply a r (now (words .exit)) (now (place .exit)) ⌝ }
-{
-    let report = answer::report_of(a);
-    *words = answer::words_of(a);
-    *place = report.1;
-    report.0
 }
 
 // The table of a rule typed as text, at the front of the result.
@@ -141,42 +119,6 @@ pub extern "C" fn showrule_dialect(
     form_reply(dialect::convert(table, result), words, place)
 }
 
-fn judge_reply(
-    j: Judgement,
-    holds: &mut bool,
-    moments: &mut usize,
-    failing: &mut usize,
-    place: &mut usize,
-) -> u32
-    ensures { λ r. ⌜ r ≡ said j .number ⌝ }
-    ensures { λ r. ⌜ now (holds .exit) ≡ said j .holds ⌝ }
-    ensures { λ r. ⌜ now (moments .exit) ≡ said j .moments ⌝ }
-    ensures { λ r. ⌜ now (failing .exit) ≡ said j .failing ⌝ }
-    ensures { λ r. ⌜ now (place .exit) ≡ said j .place ⌝ }
-{
-    match j {
-        Judgement::Judged {
-            holds: h,
-            moments: m,
-            failing: f,
-        } => {
-            *holds = h;
-            *moments = m;
-            *failing = f;
-            *place = 0;
-            0
-        }
-        Judgement::Refused(r) => {
-            *holds = false;
-            *moments = 0;
-            *failing = 0;
-            let report = refusal::report_of(r);
-            *place = report.1;
-            report.0
-        }
-    }
-}
-
 // Whether the rule holds at the first position, at how many, and the first that fails, over a recording that drives the letters 1 to
 // `driven`; the tally goes in and comes back in the two lent numbers.
 #[no_mangle]
@@ -212,13 +154,6 @@ pub extern "C" fn showrule_judge(
     judge_reply(answer, holds, moments, failing, place)
 }
 
-// The 64-bit words of a row of so many samples.
-fn row_words(samples: usize) -> usize
-    ensures { λ r. ⌜ r ≡ rowWords samples ⌝ }
-{
-    samples / 64 + (samples % 64 + 63) / 64
-}
-
 // The row call: which part of the scratch is the rule's own row, by its first word and its length.
 #[no_mangle]
 pub extern "C" fn showrule_row(
@@ -242,7 +177,7 @@ pub extern "C" fn showrule_row(
         Outcome::Refused(why) => {
             *from = 0;
             *words = 0;
-            let report = refusal::report_of(why);
+            let report = refusals::report_of(why);
             *place = report.1;
             report.0
         }

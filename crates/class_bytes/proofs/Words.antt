@@ -11,7 +11,7 @@ use Rattle.logic.specs.ClassByte.{classByte}
 use Rattle.logic.specs.ClassStep.{nextByte}
 use Rattle.table.specs.Node.{kind, left, right, shape}
 use Rattle.table.specs.Table.{formulaOf, formulas}
-use Rattle.table.specs.declared.refusal.Outcome.the-variants.{Accepted}
+use Rattle.refusals.specs.declared.Outcome.the-variants.{Accepted}
 use Rattle.table.specs.Checks.{checked}
 use Rattle.table.specs.Steps.{classBytes}
 use Rattle.table.proofs.Formulas.{length-formulas, formula-of-word}

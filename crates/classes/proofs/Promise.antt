@@ -8,8 +8,8 @@ use lib.ListN.{length, getD, drop, List·getD-append}
 use Rattle.logic.specs.Hierarchy.{Class}
 use Rattle.logic.specs.ClassByte.{classByte}
 use Rattle.logic.proofs.Hierarchy.ClassBit.{class-bit, classByte-lt}
-use Rattle.table.specs.declared.refusal.Outcome.{Outcome}
-use Rattle.table.specs.declared.refusal.Outcome.the-variants.{Accepted}
+use Rattle.refusals.specs.declared.Outcome.{Outcome}
+use Rattle.refusals.specs.declared.Outcome.the-variants.{Accepted}
 use Rattle.table.specs.Table.{formulaOf, formulas}
 use Rattle.table.specs.Steps.{classBytes}
 use Rattle.table.specs.Frame.{classStep, outcomeOf, resultBy, resultOf}

@@ -7,7 +7,7 @@ use native.Mathlib.Omega.{arith}
 use lib.ListN.{length, drop}
 use lib.Dec.{leb}
 use borrow.Author.Tests.{le-leb, lt-leb}
-use Rattle.table.specs.declared.refusal.Outcome.the-variants.{Accepted}
+use Rattle.refusals.specs.declared.Outcome.the-variants.{Accepted}
 use Rattle.table.specs.Checks.{checked}
 use Rattle.table.specs.Numbering.{fits}
 use Rattle.table.specs.Steps.{classBytes}

@@ -1,7 +1,7 @@
 // The class step: one byte a word of a plain table, bit b for the class of bit b.
 use class_bytes::fill;
-use table::refusal::Outcome;
-use table::refusal::Refusal;
+use refusals::Outcome;
+use refusals::Refusal;
 ghost use mathlib.Core.Path.{_≡_};
 ghost use lib.ListN.{length};
 ghost use Rattle.table.specs.Frame.{classStep, outcomeOf, resultOf};

@@ -7,18 +7,18 @@ use mathlib.Core.Bool.{true}
 use mathlib.Core.List.{List}
 use lib.ListN.{length, set, length-set, replicate, length-replicate}
 use Rattle.logic.specs.Dialect.{dialect}
-use Rattle.table.specs.declared.refusal.Outcome.the-variants.{Accepted}
+use Rattle.refusals.specs.declared.Outcome.the-variants.{Accepted}
 use Rattle.table.specs.Table.{rule}
 use Rattle.table.specs.Checks.{checked}
 use Rattle.table.specs.Steps.{dialectTable}
 use Rattle.table.proofs.Accepted.{accepted-well-formed}
-use Rattle.draft.specs.Slot.{pack}
+use Rattle.slots.specs.Slot.{pack}
 use Rattle.draft.specs.Drafted.{Drafted}
 use Rattle.draft.proofs.Growth.{drafted-length}
-use Rattle.dialect.specs.Source.{WordAt}
-use Rattle.dialect.specs.Filling.{slotOf, Room, Filled, Next}
-use Rattle.dialect.proofs.Words.{word-at}
-use Rattle.dialect.proofs.Forms.{leaf-filled, next-filled, weak-filled, strong-filled, kept-filled, none-filled, next-word}
+use Rattle.source.specs.Source.{WordAt}
+use Rattle.dialect_draft.specs.Filling.{slotOf, Room, Filled, Next}
+use Rattle.source.proofs.Words.{plain-kind, word-at}
+use Rattle.dialect_draft.proofs.Forms.{plain-at, leaf-filled, next-filled, weak-filled, strong-filled, kept-filled, none-filled, next-word}
 
 -- a draft as long as another, with the first j words
 abbrev Filling : List ℕ → List ℕ → ℕ → Type 0
@@ -39,7 +39,7 @@ word-filling {t} {d} {j} {k} {l} {r} q w = go (decLt k 5) (ℕ-discrete k 7) (�
     go (no h) (no b) (no c) (no e) = (
       set d (slotOf j) (pack k (slotOf l) (slotOf r)),
       length-set d _ _,
-      kept-filled q w (record { above = omega arith; plain = w .plain; no-next = b; no-weak = c; no-strong = e }) refl,
+      kept-filled q w (record { above = omega arith; plain = plain-at q w; no-next = b; no-weak = c; no-strong = e }) refl,
     )
 
 module _ (t : List ℕ) (ok : checked true 16383 t ≡ Accepted) where
@@ -49,7 +49,7 @@ module _ (t : List ℕ) (ok : checked true 16383 t ≡ Accepted) where
       let f = words-filling d q n (omega arith) in
       let e : n + 1 ≡ suc n = omega arith in
       let next : Next t (f .0) (suc n) = subst (Next t (f .0)) e (next-word q (f .1) (f .2) h) in
-      let g = word-filling next (word-at (next .word) refl refl refl) in
+      let g = word-filling next (word-at (next .word) (omega (arith, plain-kind 16383 t ok (suc n) (omega arith) h)) refl refl refl) in
       (g .0, g .1 ∙ f .1, g .2)
 
   pub dialect-short : length (dialectTable t) ≤ 2 * length t + 2

@@ -1,7 +1,4 @@
--- The laws of a conversion while its draft is filled and numbered, and what the step promises.
-pub mod Shapes
-pub mod Words
-pub mod Forms
+-- The laws of a conversion's table, and what the step promises.
 pub mod Length
 pub mod Step
 pub mod Operands

@@ -13,7 +13,7 @@ use Rattle.logic.specs.Dialect.{dialect, freeOp, isFree}
 use Rattle.logic.proofs.Tests.{T-and}
 use Rattle.logic.proofs.Letters.{letters-sub}
 use Rattle.logic.proofs.Dialect as law
-use Rattle.table.specs.declared.refusal.Outcome.the-variants.{Accepted}
+use Rattle.refusals.specs.declared.Outcome.the-variants.{Accepted}
 use Rattle.table.specs.declared.answer.Answer.the-variants.{Made}
 use Rattle.table.specs.Node.{Shape, none, constant, letter, unary, binary, kind, left, right, shape, kindOf, binaryKind, leftField, rightField}
 use Rattle.table.specs.Table.{formulas, formulaOf, formulaBy, rule}

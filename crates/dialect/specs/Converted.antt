@@ -9,7 +9,7 @@ use Rattle.logic.specs.Lasso.{Lasso, word}
 use Rattle.logic.specs.Semantics.{Holds}
 use Rattle.logic.specs.ClassByte.{classByte}
 use Rattle.logic.specs.Dialect.{dialect}
-use Rattle.table.specs.declared.refusal.Outcome.the-variants.{Accepted}
+use Rattle.refusals.specs.declared.Outcome.the-variants.{Accepted}
 use Rattle.table.specs.Node.{kind}
 use Rattle.table.specs.Table.{formulas, formulaOf, rule}
 use Rattle.table.specs.Checks.{checked}

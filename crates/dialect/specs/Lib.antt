@@ -1,5 +1,2 @@
--- What the promises of the dialect's step cite.
-pub mod Source
-pub mod Filling
-pub mod Written
+-- What the dialect's step promises.
 pub mod Converted

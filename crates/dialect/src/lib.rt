@@ -1,18 +1,16 @@
 // The dialect without W and M: a plain table goes in, and the table of its conversion comes out at the front of the result.
 use placing::put;
+use refusals::Outcome;
+use refusals::Refusal;
 use table::answer::Answer;
-use table::refusal::Outcome;
-use table::refusal::Refusal;
 ghost use mathlib.Core.Path.{_≡_};
 ghost use mathlib.Core.Bool.{true};
 ghost use lib.ListN.{length};
-ghost use Rattle.table.specs.declared.refusal.Outcome.the-variants as outcome;
+ghost use Rattle.refusals.specs.declared.Outcome.the-variants as outcome;
 ghost use Rattle.table.specs.Checks.{checked};
 ghost use Rattle.table.specs.Frame.{dialectStep, answerOf, resultOf};
-ghost use Rattle.dialect.specs.Written.{Written};
-
-mod filling;
-mod rooms;
+ghost use Rattle.table.specs.Steps.{dialectTable};
+ghost use Rattle.placing.specs.Written.{Written};
 
 // The table's length, or why there is none.
 pub fn convert(table: &[u32], result: &mut [u32]) -> Answer
@@ -37,17 +35,17 @@ pub fn convert(table: &[u32], result: &mut [u32]) -> Answer
 // function with large arrays to one that calls itself.
 fn write(table: &[u32], result: &mut [u32]) -> usize
     requires { ⌜ checked true 16383 (now table) ≡ outcome.Accepted ⌝ }
-    ensures { λ r. ⌜ Written (now (table .entry)) (now (result .entry)) (now (result .exit)) r ⌝ }
+    ensures { λ r. ⌜ Written (dialectTable (now (table .entry))) (now (result .entry)) (now (result .exit)) r ⌝ }
 {
     let slots = 2 * table.len() + 2;
     if slots < result.len() {
         return write(table, &mut result[..slots]);
     }
     if table.len() <= 64 {
-        return rooms::of_64(table, result);
+        return dialect_rooms::of_64(table, result);
     }
     if table.len() <= 512 {
-        return rooms::of_512(table, result);
+        return dialect_rooms::of_512(table, result);
     }
-    rooms::of_16383(table, result)
+    dialect_rooms::of_16383(table, result)
 }

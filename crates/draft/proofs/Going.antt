@@ -12,12 +12,12 @@ use Rattle.logic.specs.Formula.{Formula}
 use Rattle.table.specs.Numbering.{put, build}
 use Rattle.numbering.proofs.Building.{put-grows, build-grows}
 use Rattle.draft.specs.Drafted.{Drafted}
-use Rattle.draft.specs.Slot.{kind, left, right}
-use Rattle.draft.specs.Turn.{turnOf, Turnable}
+use Rattle.slots.specs.Slot.{kind, left, right}
+use Rattle.slots.specs.Turn.{turnOf, Turnable}
 use Rattle.placing.specs.State.{State, written, Numbered, Placing, Putting}
 use Rattle.draft.specs.Numberable.{Remembered, Numberable, Rooted}
-use Rattle.draft.specs.declared.turn.Turn.{Turn}
-use Rattle.draft.specs.declared.turn.Turn.the-variants.{Operand, Word}
+use Rattle.slots.specs.declared.turn.Turn.{Turn}
+use Rattle.slots.specs.declared.turn.Turn.the-variants.{Operand, Word}
 use Rattle.draft.proofs.Drafts.{drafted-within}
 use Rattle.draft.proofs.Next.{Next, here, next-then, next-grows, build-next}
 use Rattle.placing.proofs.Placing.{Reached, reached-none, reached-on, placing-on, placing-full, placing-written, placing-held, build-positive}

@@ -16,9 +16,9 @@ use Rattle.numbering.specs.Held.{Distinct, Held}
 use Rattle.numbering.proofs.Building.{build-grows, build-length, build-distinct, held-grows, held-within}
 use Rattle.numbering.proofs.Search.{distinct-nil}
 use Rattle.numbering.proofs.Built.{Made, Built, built-nil, Hereditary, build-built, made-held, held-once}
-use Rattle.draft.specs.Slot.{kind, left, right}
+use Rattle.slots.specs.Slot.{kind, left, right}
 use Rattle.draft.specs.Drafted.{Drafted}
-use Rattle.draft.proofs.Fields.{kind-pack, left-pack, right-pack}
+use Rattle.slots.proofs.Fields.{kind-pack, left-pack, right-pack}
 
 -- the formula of a slot by its shape, where f gives those of its operands
 abbrev formulaBy : (ℕ → Formula) → ℕ → Shape → Formula

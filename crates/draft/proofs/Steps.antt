@@ -12,14 +12,14 @@ use Rattle.table.proofs.Shapes.{shape-unary, shape-binary, shape-constant, shap
 use Rattle.numbering.specs.Held.{Distinct}
 use Rattle.numbering.proofs.Building.{build-const, build-lit, build-un, build-bin, held-build, held-within}
 use Rattle.draft.specs.Drafted.{Drafted}
-use Rattle.draft.specs.Slot.{kind, left, right, pack}
-use Rattle.draft.specs.Turn.{arity, needing, turnOf, Slotted, Turnable}
+use Rattle.slots.specs.Slot.{kind, left, right, pack}
+use Rattle.slots.specs.Turn.{arity, needing, turnOf, Slotted, Turnable}
 use Rattle.draft.specs.Numberable.{Remembered}
-use Rattle.draft.specs.declared.turn.Turn.{Turn}
-use Rattle.draft.specs.declared.turn.Turn.the-variants.{Operand, Word}
-use Rattle.draft.proofs.Arity.{Known, known-kind}
+use Rattle.slots.specs.declared.turn.Turn.{Turn}
+use Rattle.slots.specs.declared.turn.Turn.the-variants.{Operand, Word}
+use Rattle.slots.proofs.Arity.{Known, known-kind}
 use Rattle.draft.proofs.Drafts.{drafted-within}
-use Rattle.draft.proofs.Fields.{kind-pack, left-pack, right-pack}
+use Rattle.slots.proofs.Fields.{kind-pack, left-pack, right-pack}
 use Rattle.draft.proofs.Next.{Next, here, under, first, second}
 
 -- slot j stands for what the formula of slot i needs next, and has no number yet

@@ -7,7 +7,7 @@ use mathlib.Core.List.{List}
 use lib.ListN.{length, getD}
 use Rattle.logic.specs.Formula.{Formula, const, lit, un, bin}
 use Rattle.table.specs.Node.{unaryKind, binaryKind}
-use Rattle.draft.specs.Slot.{pack}
+use Rattle.slots.specs.Slot.{pack}
 
 -- slot i of d is s
 pub record SlotIs (d : List ℕ) (i s : ℕ) : Type 0 where

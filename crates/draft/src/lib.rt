@@ -1,4 +1,2 @@
 // Drafts: the words of a form before they are numbered, and numbering them.
 pub mod number;
-pub mod slot;
-mod turn;

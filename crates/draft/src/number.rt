@@ -1,7 +1,7 @@
 // Numbering a draft: the words of the root's formula as first needed, each slot's word placed once.
-use crate::turn;
-use crate::turn::Turn;
 use placing::put;
+use slots::turn;
+use slots::turn::Turn;
 ghost use Rattle.placing.specs.State.{Numbered, state, written};
 ghost use Rattle.draft.specs.Numberable.{Numberable, Rooted};
 

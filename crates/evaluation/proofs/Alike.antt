@@ -13,16 +13,18 @@ use Rattle.logic.specs.Truth.{Sequence, truth}
 use Rattle.logic.proofs.Lasso.Driven.{agree-truth}
 use Rattle.logic.proofs.Lasso.Period.{place-lt}
 use Rattle.row_words.specs.Row.{row, rowWords}
-use Rattle.table.specs.declared.refusal.Outcome.{Outcome}
-use Rattle.table.specs.declared.refusal.Outcome.the-variants.{Accepted, Refused}
+use Rattle.refusals.specs.declared.Outcome.{Outcome}
+use Rattle.refusals.specs.declared.Outcome.the-variants.{Accepted, Refused}
 use Rattle.table.specs.Table.{formulas, rule}
 use Rattle.table.proofs.Formulas.{length-formulas}
-use Rattle.judge_checks.specs.declared.tally.Tally.{Tally}
+use Rattle.tally.specs.declared.Tally.{Tally}
 use Rattle.evaluation.specs.declared.answer.Judged.{Judged}
-use Rattle.judge_checks.specs.Tallies.{counted}
+use Rattle.tally.specs.Tallies.{counted}
 use Rattle.evaluation.specs.Alike.{Alike}
-use Rattle.evaluation.specs.Judging.{lassoOf, rowOf, rowsOf, rowsThen, judgement, rowOutcome, judgeOutcome, replyBy, reply, scratchAfter, lastRow, partAt}
-use Rattle.evaluation.proofs.WordRow.{Inside, lasso-inside, accepted-facts}
+use Rattle.row_filling.specs.Filling.{lassoOf, rowOf, rowsOf, rowsThen}
+use Rattle.evaluation.specs.Judging.{judgement, rowOutcome, judgeOutcome, replyBy, reply, scratchAfter, lastRow, partAt}
+use Rattle.row_filling.proofs.WordRow.{Inside, lasso-inside}
+use Rattle.evaluation.proofs.Accepted.{accepted-facts}
 use Rattle.evaluation.proofs.LastRow.{judge-rows}
 use Rattle.evaluation.proofs.Promise.{accepted-word, accepted-drives, rule-drives}
 

@@ -11,25 +11,26 @@ use Rattle.logic.specs.Lasso.{Lasso}
 use Rattle.logic.specs.Truth.{Sequence, truth}
 use Rattle.row_words.specs.Row.{row, countTrue, firstFalse}
 use Rattle.row_words.specs.Writing.{RowFor}
-use Rattle.table.specs.declared.refusal.Outcome.{Outcome}
-use Rattle.table.specs.declared.refusal.Outcome.the-variants.{Accepted, Refused}
-use Rattle.table.specs.declared.refusal.Refusal.{Refusal}
-use Rattle.table.specs.Refusals.{first}
+use Rattle.refusals.specs.declared.Outcome.{Outcome}
+use Rattle.refusals.specs.declared.Outcome.the-variants.{Accepted, Refused}
+use Rattle.refusals.specs.declared.Refusal.{Refusal}
+use Rattle.refusals.specs.Refusals.{first}
 use Rattle.table.specs.Table.{formulaOf, formulas, rule}
 use Rattle.row_words.specs.Row.{rowWords}
 use Rattle.judge_checks.specs.Checks.{tallyChecks}
-use Rattle.table.proofs.First.{first-passed}
+use Rattle.refusals.proofs.First.{first-passed}
 use Rattle.table.proofs.Accepted.{accepted-well-formed}
 use Rattle.table.proofs.Formulas.{length-formulas}
-use Rattle.judge_checks.specs.declared.tally.Tally.{Tally}
+use Rattle.tally.specs.declared.Tally.{Tally}
 use Rattle.evaluation.specs.declared.answer.Judgement.{Judgement}
 use Rattle.evaluation.specs.declared.answer.Judgement.the-variants.{Judged as JudgedAs, Refused as NotJudged}
 use Rattle.evaluation.specs.declared.answer.Judged.{Judged}
-use Rattle.judge_checks.specs.Tallies.{isFull, counted, tallyAfter}
-use Rattle.evaluation.specs.Judging.{Fillable, lassoOf, rowOf, rowsThen, judgement, replyBy, rowOutcome, judgeOutcome, reply, scratchAfter, lastRow, partAt}
+use Rattle.tally.specs.Tallies.{isFull, counted, tallyAfter}
+use Rattle.row_filling.specs.Filling.{Fillable, lassoOf, rowOf, rowsThen}
+use Rattle.evaluation.specs.Judging.{judgement, replyBy, rowOutcome, judgeOutcome, reply, scratchAfter, lastRow, partAt}
 use Rattle.judge_checks.proofs.Outcomes.{judgeable, judge-both}
-use Rattle.evaluation.proofs.Scratch.{width, row-part}
-use Rattle.evaluation.proofs.WordRow.{Inside, lasso-inside, part-small, part-end, part-for}
+use Rattle.row_filling.proofs.Scratch.{width, row-part}
+use Rattle.row_filling.proofs.WordRow.{Inside, lasso-inside, part-small, part-end, part-for}
 
 -- what the judge accepts the row call accepts
 pub judge-rows : (t samples : List ℕ) (start driven : ℕ) (s : List ℕ) (tally : Tally)

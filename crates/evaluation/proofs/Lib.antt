@@ -1,7 +1,5 @@
--- The laws of the scratch, and the promise of a judgement.
-pub mod Scratch
-pub mod Looped
-pub mod WordRow
+-- The promise of a judgement.
+pub mod Accepted
 pub mod LastRow
 pub mod Promise
 pub mod Alike

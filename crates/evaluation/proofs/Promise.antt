@@ -18,22 +18,26 @@ use Rattle.logic.specs.Driven.{Drives}
 use Rattle.logic.specs.Truth.{Sequence, truth}
 use Rattle.logic.proofs.Lasso.Period.{place-lt, truth-place}
 use Rattle.logic.proofs.Lasso.Truth.{truth-holds}
-use Rattle.row_words.specs.Row.{bit, digit, row, rowWords, wordOf, countTrue, firstFalse}
+use Rattle.logic.specs.Bit.{bit}
+use Rattle.row_words.specs.Row.{digit, row, rowWords, wordOf, countTrue, firstFalse}
 use Rattle.row_words.proofs.Bits.{bit-above, pack-lt}
 use Rattle.rows.proofs.Rows.{row-length, row-word, word-bit}
-use Rattle.table.specs.declared.refusal.Outcome.{Outcome}
-use Rattle.table.specs.declared.refusal.Outcome.the-variants.{Accepted, Refused}
-use Rattle.table.specs.Refusals.{outcomeNumber, outcomePlace}
+use Rattle.refusals.specs.declared.Outcome.{Outcome}
+use Rattle.refusals.specs.declared.Outcome.the-variants.{Accepted, Refused}
+use Rattle.refusals.specs.Refusals.{outcomeNumber, outcomePlace}
 use Rattle.table.specs.Table.{formulaOf, formulas, rule}
 use Rattle.table.proofs.Formulas.{length-formulas}
 use Rattle.table.proofs.Accepted.{accepted-well-formed}
 use Rattle.table.proofs.Letters.{formulas-driven}
-use Rattle.judge_checks.specs.declared.tally.Tally.{Tally}
-use Rattle.evaluation.specs.Judging.{lassoOf, rowOf, rowNumber, holdsIn, rowsThen, rowOutcome, judgeOutcome, replyBy, reply, scratchAfter, lastRow}
+use Rattle.tally.specs.declared.Tally.{Tally}
+use Rattle.operand_rows.specs.Operands.{rowNumber}
+use Rattle.row_filling.specs.Filling.{lassoOf, rowOf, rowsThen}
+use Rattle.evaluation.specs.Judging.{holdsIn, rowOutcome, judgeOutcome, replyBy, reply, scratchAfter, lastRow}
 use Rattle.evaluation.specs.Answers.{said, Count, none, one-more, no-more, FirstFailing, Judges}
 use Rattle.judge_checks.proofs.Outcomes.{Judgeable}
-use Rattle.evaluation.proofs.Scratch.{width, row-part}
-use Rattle.evaluation.proofs.WordRow.{Inside, lasso-inside, accepted-facts}
+use Rattle.row_filling.proofs.Scratch.{width, row-part}
+use Rattle.row_filling.proofs.WordRow.{Inside, lasso-inside}
+use Rattle.evaluation.proofs.Accepted.{accepted-facts}
 use Rattle.evaluation.proofs.LastRow.{judge-rows, accepted-scratch}
 
 -- a row's bit at a position below its number of positions

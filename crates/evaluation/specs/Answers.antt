@@ -6,7 +6,7 @@ use mathlib.Core.Bool.{Bool, false}
 use mathlib.Core.List.{List}
 use lib.Dec.{T}
 use Rattle.logic.specs.Semantics.{Predicate}
-use Rattle.table.specs.Refusals.{numberOf, placeOf}
+use Rattle.refusals.specs.Refusals.{numberOf, placeOf}
 use Rattle.evaluation.specs.declared.answer.Judgement.{Judgement}
 use Rattle.evaluation.specs.declared.answer.Judgement.the-variants.{Judged, Refused}
 use Rattle.evaluation.specs.Judging.{holdsIn}

@@ -1,61 +1,29 @@
 -- What a judgement answers, and what it leaves in the scratch: accepted or refused, the whole of both.
-use Prim.Native.Nat.{ℕ, _+_, _-_, _*_, _/_, _%_, _≤_, _<_}
-use mathlib.Core.Path.{_≡_}
-use mathlib.Core.Bool.{Bool, false}
-use mathlib.Core.List.{List, [], _∷_, _++_}
-use native.Mathlib.Decide.{decLt, decLe}
-use lib.ListN.{length, getD, take, drop}
-use lib.Dec.{lit<, lit≤}
+use Prim.Native.Nat.{ℕ, _+_, _-_, _*_, _/_, _%_}
+use mathlib.Core.Bool.{Bool}
+use mathlib.Core.List.{List, []}
+use lib.ListN.{length, getD}
 use Rattle.logic.specs.Formula.{Formula}
 use Rattle.logic.specs.Lasso.{Lasso}
 use Rattle.logic.specs.Truth.{Sequence, truth}
-use Rattle.row_words.specs.Row.{bit, row, rowWords, countTrue, firstFalse}
-use Rattle.table.specs.declared.refusal.Outcome.{Outcome}
-use Rattle.table.specs.declared.refusal.Outcome.the-variants.{Accepted, Refused}
-use Rattle.table.specs.Refusals.{first}
+use Rattle.logic.specs.Bit.{bit}
+use Rattle.row_words.specs.Row.{rowWords, countTrue, firstFalse}
+use Rattle.refusals.specs.declared.Outcome.{Outcome}
+use Rattle.refusals.specs.declared.Outcome.the-variants.{Accepted, Refused}
+use Rattle.refusals.specs.Refusals.{first}
 use Rattle.table.specs.Table.{formulas, rule}
-use Rattle.table.specs.Checks.{checked}
-use Rattle.judge_checks.specs.declared.tally.Tally.{Tally}
+use Rattle.tally.specs.declared.Tally.{Tally}
 use Rattle.evaluation.specs.declared.answer.Judgement.{Judgement}
 use Rattle.evaluation.specs.declared.answer.Judgement.the-variants.{Judged as JudgedAs, Refused as NotJudged}
 use Rattle.evaluation.specs.declared.answer.Judged.{Judged}
-use Rattle.judge_checks.specs.Tallies.{counted}
+unfoldable pub use Rattle.row_filling.specs.Filling.{lassoOf, rowOf}
+use Rattle.row_filling.specs.Filling.{rowsThen}
+use Rattle.tally.specs.Tallies.{counted}
 use Rattle.judge_checks.specs.Checks.{rowChecks, judgeChecks}
 
--- samples, a loop start and a driven count as a lasso; where the loop start is not below the number of samples or the count is over 32, both of which
--- are refused, a single sample 0 of which nothing is driven
-abbrev pub lassoBy : (samples : List ℕ) (start driven : ℕ) → Dec (start < length samples) → Dec (driven ≤ 32) → Lasso
-lassoBy samples start driven (yes h) (yes k) = record { samples = samples; start = start; driven = driven; inside = h; few = k }
-lassoBy samples start driven (yes h) (no k) = record { samples = 0 ∷ []; start = 0; driven = 0; inside = lit< tt; few = lit≤ tt }
-lassoBy samples start driven (no h) k = record { samples = 0 ∷ []; start = 0; driven = 0; inside = lit< tt; few = lit≤ tt }
-
-unfoldable pub lassoOf : List ℕ → ℕ → ℕ → Lasso
-lassoOf samples start driven = lassoBy samples start driven (decLt start (length samples)) (decLe driven 32)
-
--- the row of a formula: its truth at each position below the number of samples
-unfoldable pub rowOf : Lasso → Formula → List ℕ
-rowOf r φ = row (length (r .samples)) (truth r φ)
-
--- the rows of formulas, one after the other
-unfoldable pub rowsOf : Lasso → List Formula → List ℕ
-rowsOf r [] = []
-rowsOf r (φ ∷ φs) = rowOf r φ ++ rowsOf r φs
-
--- row number j, counted from 0, among rows of so many words, and whether it says that position i holds
-abbrev pub rowNumber : ℕ → ℕ → List ℕ → List ℕ
-rowNumber words j scratch = take words (drop (j * words) scratch)
-
+-- whether a row says that position i holds
 abbrev pub holdsIn : List ℕ → ℕ → Bool
 holdsIn r i = bit (getD r (i / 64) 0) (i % 64)
-
--- word number n has a row among them
-pub record Standing (n words : ℕ) (scratch : List ℕ) : Type 0 where
-  pub some : 1 ≤ n
-  pub room : n * words ≤ length scratch
-
--- rows at the start of the scratch, and past them its own words
-unfoldable pub rowsThen : Lasso → List Formula → List ℕ → List ℕ
-rowsThen r φs scratch = rowsOf r φs ++ drop (length φs * rowWords (length (r .samples))) scratch
 
 -- whether the rule holds at position 0, at how many positions, and the first that fails, the number of samples if none
 abbrev pub judgement : Sequence → ℕ → Judgement
@@ -91,11 +59,3 @@ judgeOutcome t samples start driven scratch tally = first (judgeChecks t (length
 -- the judge's whole reply
 unfoldable pub reply : List ℕ → List ℕ → ℕ → ℕ → List ℕ → Tally → Judged
 reply t samples start driven scratch tally = replyBy (judgeOutcome t samples start driven scratch tally) (lassoOf samples start driven) (rule t) tally
-
--- what the filling of rows rests on; how many letters are driven is no part of it
-pub record Fillable (t samples : List ℕ) (start : ℕ) (scratch : List ℕ) : Type 0 where
-  pub accepted : checked false 16383 t ≡ Accepted
-  pub some : 1 ≤ length samples
-  pub few : length samples ≤ 4096
-  pub inside : start < length samples
-  pub room : length t * rowWords (length samples) ≤ length scratch

@@ -2,4 +2,3 @@
 pub mod Judging
 pub mod Answers
 pub mod Alike
-pub mod Looped

@@ -1,6 +1,6 @@
 // What a judgement answers.
-use judge_checks::tally::Tally;
-use table::refusal::Refusal;
+use refusals::Refusal;
+use tally::Tally;
 
 // Whether the rule holds at the first position, at how many positions, and the first position at which it fails.
 pub enum Judgement {

@@ -1,30 +1,28 @@
 // Judging a rule over a looped recording: the rows of all its words, the answer read off the last one, and the tally.
 pub mod answer;
-mod filling;
-mod operators;
 
 ghost use mathlib.Core.Path.{_≡_};
 ghost use Prim.Native.Nat.{ℕ, _≤_};
 ghost use Rattle.row_words.specs.Writing.{RowFor};
 ghost use Rattle.row_words.specs.Row as rows;
 ghost use Rattle.logic.specs.Truth.{Sequence};
-ghost use Rattle.table.specs.declared.refusal.Outcome.the-variants.{Accepted};
+ghost use Rattle.refusals.specs.declared.Outcome.the-variants.{Accepted};
 ghost use Rattle.table.specs.Table.{formulas};
-ghost use Rattle.evaluation.specs.Judging.{Fillable, lassoOf, rowsThen, rowOutcome, judgeOutcome, judgement, reply, scratchAfter, lastRow, partAt};
-ghost use Rattle.table.specs.Refusals.{outcomeNumber, outcomePlace};
-ghost use Rattle.judge_checks.specs.Tallies.{tallyAfter};
+ghost use Rattle.row_filling.specs.Filling.{Fillable, lassoOf, rowsThen};
+ghost use Rattle.evaluation.specs.Judging.{rowOutcome, judgeOutcome, judgement, reply, scratchAfter, lastRow, partAt};
+ghost use Rattle.refusals.specs.Refusals.{outcomeNumber, outcomePlace};
+ghost use Rattle.tally.specs.Tallies.{tallyAfter};
 use crate::answer::Judged;
 use crate::answer::Judgement;
-use crate::filling::fill_rows;
 use judge_checks::checks::check_judge;
 use judge_checks::checks::check_row;
 use judge_checks::checks::row_words;
-use judge_checks::tally::Tally;
-use rows::read::count_held;
-use rows::read::first_failing;
-use rows::read::holds_at;
-use table::refusal;
-use table::refusal::Outcome;
+use refusals::Outcome;
+use row_filling::fill_rows;
+use row_reading::count_held;
+use row_reading::first_failing;
+use row_reading::holds_at;
+use tally::Tally;
 
 // The answer off the rule's row, and the tally after it.
 fn read_answer(row: &[u64], positions: usize, tally: Tally) -> Judged
@@ -125,7 +123,7 @@ pub fn row<'a>(
 {
     match fill(table, samples, start, driven, scratch) {
         Outcome::Refused(why) => {
-            let report = refusal::report_of(why);
+            let report = refusals::report_of(why);
             *number = report.0;
             *place = report.1;
             &mut scratch[0..0]

@@ -2,11 +2,11 @@
 use mathlib.Core.Path.{_≡_, refl, sym, ap, _∙_}
 use mathlib.Core.Bool.{Bool}
 use mathlib.Core.List.{List, _++_}
-use Rattle.table.specs.declared.refusal.Refusal.{Refusal}
-use Rattle.table.specs.declared.refusal.Outcome.{Outcome}
-use Rattle.table.specs.declared.refusal.Outcome.the-variants.{Accepted, Refused}
-use Rattle.table.specs.Refusals.{Check, first}
-use Rattle.table.proofs.First.{first-append-accepted, first-append-refused}
+use Rattle.refusals.specs.declared.Refusal.{Refusal}
+use Rattle.refusals.specs.declared.Outcome.{Outcome}
+use Rattle.refusals.specs.declared.Outcome.the-variants.{Accepted, Refused}
+use Rattle.refusals.specs.Refusals.{Check, first}
+use Rattle.refusals.proofs.First.{first-append-accepted, first-append-refused}
 use Rattle.fields.specs.Layout.{andThen}
 use Rattle.fields.specs.Marks.{Checked}
 

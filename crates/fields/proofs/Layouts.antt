@@ -4,11 +4,11 @@ use mathlib.Core.Path.{_≡_, refl, ap}
 use mathlib.Core.Bool.{Bool, true, false, not, _&&_, _||_, or-false}
 use mathlib.Core.List.{[]}
 use lib.Dec.{leb, eqb}
-use Rattle.table.specs.declared.refusal.Refusal.{Refusal}
-use Rattle.table.specs.declared.refusal.Outcome.{Outcome}
-use Rattle.table.specs.declared.refusal.Outcome.the-variants.{Accepted}
-use Rattle.table.specs.declared.refusal.Refusal.the-variants.{KindZero, NotPlain, FieldNotZero}
-use Rattle.table.specs.Refusals.{first, decideBy}
+use Rattle.refusals.specs.declared.Refusal.{Refusal}
+use Rattle.refusals.specs.declared.Outcome.{Outcome}
+use Rattle.refusals.specs.declared.Outcome.the-variants.{Accepted}
+use Rattle.refusals.specs.declared.Refusal.the-variants.{KindZero, NotPlain, FieldNotZero}
+use Rattle.refusals.specs.Refusals.{first, decideBy}
 use Rattle.table.specs.Node.{Shape, none, constant, letter, unary, binary, kind, left, right, shape}
 use Rattle.table.specs.Checks.{occurs, wordChecks}
 use Rattle.fields.specs.declared.layout.Layout.the-variants.{Constant}

@@ -3,10 +3,10 @@ use Prim.Native.Nat.{ℕ}
 use mathlib.Core.Bool.{not, _||_}
 use mathlib.Core.List.{List, [], _∷_, _++_}
 use lib.Dec.{ltb, leb, eqb}
-use Rattle.table.specs.declared.refusal.Refusal.the-variants.{OperandZero, OperandNotEarlier, LetterOutOfRange, FieldNotZero}
-use Rattle.table.specs.declared.refusal.Outcome.{Outcome}
-use Rattle.table.specs.declared.refusal.Outcome.the-variants.{Accepted, Refused}
-use Rattle.table.specs.Refusals.{Check, _⇒_}
+use Rattle.refusals.specs.declared.Refusal.the-variants.{OperandZero, OperandNotEarlier, LetterOutOfRange, FieldNotZero}
+use Rattle.refusals.specs.declared.Outcome.{Outcome}
+use Rattle.refusals.specs.declared.Outcome.the-variants.{Accepted, Refused}
+use Rattle.refusals.specs.Refusals.{Check, _⇒_}
 use Rattle.table.specs.Node.{Shape, none, constant, letter, unary, binary}
 use Rattle.fields.specs.declared.layout.Layout.{Layout}
 use Rattle.fields.specs.declared.layout.Layout.the-variants.{Constant, Letter, Unary, Binary}

@@ -2,15 +2,15 @@
 mod layout;
 
 use crate::layout::Layout;
-use table::refusal::Outcome;
-use table::refusal::Refusal;
+use refusals::Outcome;
+use refusals::Refusal;
 use table::word;
 ghost use mathlib.Core.Path.{_≡_};
 ghost use mathlib.Core.Bool.{true};
 ghost use mathlib.Core.List.{[]};
 ghost use Prim.Native.Nat.{_≤_};
 ghost use lib.ListN.{length, set};
-ghost use Rattle.table.specs.Refusals.{first};
+ghost use Rattle.refusals.specs.Refusals.{first};
 ghost use Rattle.table.specs.Checks.{wordChecks};
 ghost use Rattle.fields.specs.Layout.{andThen, blankChecks, operandChecks, letterChecks, fieldChecks};
 ghost use Rattle.fields.specs.Marks.{markedBy, markedWith, Checked};

@@ -3,31 +3,32 @@ use Prim.Native.Nat.{ℕ, zero, suc, _+_, _*_, _-_, _/_, _%_, _^_, _≤_, _<_}
 use native.Mathlib.Omega.{arith}
 use native.Mathlib.Numerals.{add-one}
 use mathlib.Core.Path.{_≡_, refl, sym, ap, _∙_}
-use mathlib.Core.Bool.{Bool, true, false, cond, true≢false}
+use mathlib.Core.Bool.{Bool, true, false, cond}
 use mathlib.Core.List.{List, [], _∷_, _++_, map, map-append, foldl, foldl-append, append-nil}
 use lib.ListN.{length, getD, take, length-append}
 use lib.Seq.{take-length}
 use lib.Dec.{eqb}
-use Rattle.logic.specs.Formula.{Formula, const, lit, un, bin, conj, disj, until, weak, release, strong, implies}
-use Rattle.logic.specs.NormalForm.{isLeast, isGreatest, keep, chosen, leastOf, greatestOf, part}
+use Rattle.logic.specs.Formula.{Formula, const, bin, conj}
+use Rattle.logic.specs.NormalForm.{keep, chosen, leastOf, greatestOf, part}
 use Rattle.table.specs.Table.{formulas, formulasAfter, formulaOf, rule}
 use Rattle.table.specs.Steps.{fixpoints}
 use Rattle.table.specs.StepChecks.{isFixpointWord}
 use Rattle.table.proofs.Accepted.{WellFormed, accepted-well-formed, accepted-formula}
 use Rattle.draft.specs.Drafted.{SlotIs, Drafted}
 use Rattle.draft.proofs.Drafts.{drafted-below}
-use Rattle.filling.specs.declared.rewriting.Rewriting.the-variants.{Steady, Recurring, Opening}
+use Rattle.rewriting.specs.declared.Rewriting.the-variants.{Steady, Recurring, Opening}
 use Rattle.filling.specs.declared.conjuncts.Fixpoint.{Fixpoint}
 use Rattle.filling.specs.declared.conjuncts.Fixpoint.the-variants.{Least, Greatest}
-use Rattle.filling.specs.Slots.{place, wordBy}
-use Rattle.fixpoints.specs.Positions.{digit, bitOf}
-use Rattle.filling.specs.Filled.{formOf, Fillable, Filled}
+use Rattle.rewriting.specs.Slots.{place, wordBy}
+use Rattle.logic.specs.Bit.{bit}
+use Rattle.fixpoints.specs.Positions.{bitOf}
+use Rattle.filling.specs.Filled.{formOf, Laid, Chosen, Fillable, Filled}
 use Rattle.filling.specs.Conjunct.{picks, membersOf, conjunctOf, conjoined, formSlot, innerSlot, outerSlot, Conjoinable, Conjoined, Joinable, Joined}
-use Rattle.filling.proofs.Places.{place-fits}
+use Rattle.rewriting.proofs.Places.{place-fits}
 use Rattle.normal_laws.proofs.Chosen.{keep-append, members-few}
 use Rattle.fixpoints.proofs.UntilLike.{chosen-append, fixpoints-step, bits-before}
 use Rattle.filling.proofs.Members.{members-picked, picked-word}
-use Rattle.filling.proofs.WordByWord.{slot-at, filled-later, kept-bit}
+use Rattle.filling.proofs.WordByWord.{slot-at, filled-later, laid-later, chosen-filled, kept-bit}
 
 -- the members among the words so far and one more
 module _ {t : List ℕ} {limit : ℕ} (f : WellFormed true limit t) (i : ℕ) (h : i < length t) (x : Fixpoint) (c : ℕ) where
@@ -45,21 +46,21 @@ module _ {t : List ℕ} {limit : ℕ} (f : WellFormed true limit t) (i : ℕ) (h
   unfolding chosen
   members-other e = members-more ∙ go (isFixpointWord (getD t i 0))
     where
-      bit : (b : Bool) → membersOf x (take i t) c ++ keep (picks x) (cond b (getD (formulas t) i (const false) ∷ []) []) ≡ membersOf x (take i t) c
-      bit true = rw (e, append-nil)
-      bit false = append-nil (membersOf x (take i t) c)
+      by-bit : (b : Bool) → membersOf x (take i t) c ++ keep (picks x) (cond b (getD (formulas t) i (const false) ∷ []) []) ≡ membersOf x (take i t) c
+      by-bit true = rw (e, append-nil)
+      by-bit false = append-nil (membersOf x (take i t) c)
 
       go : (b : Bool) → membersOf x (take i t) c ++ keep (picks x) (chosen (cond b (getD (formulas t) i (const false) ∷ []) []) (c / 2 ^ bitOf t i)) ≡ membersOf x (take i t) c
-      go true = bit (eqb (c / 2 ^ bitOf t i % 2) 1)
+      go true = by-bit (eqb (c / 2 ^ bitOf t i % 2) 1)
       go false = append-nil (membersOf x (take i t) c)
 
-  pub members-left : picks x (getD (formulas t) i (const false)) ≡ true → digit c (bitOf t i) ≡ false → membersOf x (take (suc i) t) c ≡ membersOf x (take i t) c
-  unfolding chosen
+  pub members-left : picks x (getD (formulas t) i (const false)) ≡ true → bit c (bitOf t i) ≡ false → membersOf x (take (suc i) t) c ≡ membersOf x (take i t) c
+  unfolding chosen bit
   members-left e d = members-more ∙ rw (picked-word f i h x e, d, append-nil)
 
-  pub members-taken : picks x (getD (formulas t) i (const false)) ≡ true → digit c (bitOf t i) ≡ true
+  pub members-taken : picks x (getD (formulas t) i (const false)) ≡ true → bit c (bitOf t i) ≡ true
       → membersOf x (take (suc i) t) c ≡ membersOf x (take i t) c ++ (getD (formulas t) i (const false) ∷ [])
-  unfolding chosen
+  unfolding chosen bit
   members-taken e d = members-more ∙ rw (picked-word f i h x e, d, e)
 
   members-longer : length (membersOf x (take i t) c) ≤ length (membersOf x (take (suc i) t) c)
@@ -84,6 +85,7 @@ pub record Joining (x : Fixpoint) (t : List ℕ) (c : ℕ) (d : List ℕ) (first
   pub within : i ≤ length t
   pub long : length e ≡ length d
   pub filled : Filled t c e (length t)
+  pub before : (k : ℕ) → k < first → getD e k 0 ≡ getD d k 0
   pub after : next ≡ first + 3 * length (membersOf x (take i t) c)
   pub joined : (φ : Formula) → Drafted d φ (first - 1) → Drafted e (conjoined x t c (membersOf x (take i t) c) φ) (next - 1)
 
@@ -108,6 +110,7 @@ module _ {x : Fixpoint} {t positions : List ℕ} {c : ℕ} {d : List ℕ} {first
     within = omega arith;
     long = refl;
     filled = q .filled;
+    before = λ k l. refl;
     after = rw (members-none x t c) (omega arith);
     joined = λ φ p. rw (members-none x t c) p;
   }
@@ -116,7 +119,7 @@ module _ {x : Fixpoint} {t positions : List ℕ} {c : ℕ} {d : List ℕ} {first
   joining-all {i = i} s h =
       let z : i ≡ length t = omega (arith, s .within) in
       let y : take i t ≡ t = ap (λ (n : ℕ). take n t) z ∙ take-length t in
-      record { long = s .long; filled = s .filled; after = rw y at (s .after); joined = λ φ p. rw y at (s .joined φ p) }
+      record { long = s .long; before = s .before; after = rw y at (s .after); joined = λ φ p. rw y at (s .joined φ p) }
 
   module _ {e : List ℕ} {next i : ℕ} (s : Joining x t c d first e next i) (h : i < length t) where
     ψ : Formula
@@ -127,9 +130,9 @@ module _ {x : Fixpoint} {t positions : List ℕ} {c : ℕ} {d : List ℕ} {first
     unfolding ψ
     told g e = ap (picks x) (accepted-formula well-formed i h) ∙ sym (g _ _) ∙ e
 
-    bit : {r b : Bool} → r ≡ digit c (getD positions (i + 1) 0) → r ≡ b → digit c (bitOf t i) ≡ b
+    picked-bit : {r b : Bool} → r ≡ bit c (getD positions (i + 1) 0) → r ≡ b → bit c (bitOf t i) ≡ b
     unfolding ψ
-    bit g e = sym (kept-bit c (q .kept) h g) ∙ e
+    picked-bit g e = sym (kept-bit c (q .kept) h g) ∙ e
 
     later : first ≤ next
     later = omega (arith, s .after)
@@ -139,6 +142,7 @@ module _ {x : Fixpoint} {t positions : List ℕ} {c : ℕ} {d : List ℕ} {first
       within = h;
       long = s .long;
       filled = s .filled;
+      before = s .before;
       after = rw z (s .after);
       joined = λ φ p. rw z (s .joined φ p);
     })
@@ -147,15 +151,15 @@ module _ {x : Fixpoint} {t positions : List ℕ} {c : ℕ} {d : List ℕ} {first
     unfolding ψ
     joining-other g z = same (members-other well-formed i h x c (told g z))
 
-    pub joining-left : {r o : Bool} → ((a b : Formula) → r ≡ picks x (wordBy (getD t i 0) a b)) → r ≡ true → o ≡ digit c (getD positions (i + 1) 0) → o ≡ false
+    pub joining-left : {r o : Bool} → ((a b : Formula) → r ≡ picks x (wordBy (getD t i 0) a b)) → r ≡ true → o ≡ bit c (getD positions (i + 1) 0) → o ≡ false
         → Joining x t c d first e next (i + 1)
     unfolding ψ
-    joining-left g z k y = same (members-left well-formed i h x c (told g z) (bit k y))
+    joining-left g z k y = same (members-left well-formed i h x c (told g z) (picked-bit k y))
 
-    module _ {r o : Bool} (g : (a b : Formula) → r ≡ picks x (wordBy (getD t i 0) a b)) (z : r ≡ true) (k : o ≡ digit c (getD positions (i + 1) 0)) (y : o ≡ true) where
+    module _ {r o : Bool} (g : (a b : Formula) → r ≡ picks x (wordBy (getD t i 0) a b)) (z : r ≡ true) (k : o ≡ bit c (getD positions (i + 1) 0)) (y : o ≡ true) where
       more : membersOf x (take (suc i) t) c ≡ membersOf x (take i t) c ++ (ψ ∷ [])
       unfolding ψ
-      more = members-taken well-formed i h x c (told g z) (bit k y)
+      more = members-taken well-formed i h x c (told g z) (picked-bit k y)
 
       more-length : length (membersOf x (take (suc i) t) c) ≡ length (membersOf x (take i t) c) + 1
       more-length = rw (more, length-append)
@@ -173,6 +177,7 @@ module _ {x : Fixpoint} {t positions : List ℕ} {c : ℕ} {d : List ℕ} {first
         within = h;
         long = w .long ∙ s .long;
         filled = filled;
+        before = λ k l. w .before k (omega (arith, later)) ∙ s .before k l;
         after = w .after ∙ omega (arith, s .after, more-length);
         joined = λ φ p. rw (more, conjoined-more, w .after) (joined φ p);
       })
@@ -199,34 +204,44 @@ module _ {x : Fixpoint} {t positions : List ℕ} {c : ℕ} {d : List ℕ} {first
               )
 
 -- the opening form of the rule, and all conjuncts
-module _ {t positions : List ℕ} {c : ℕ} {d : List ℕ} (q : Fillable t positions d) where
-  pub joinable-least : {d₁ : List ℕ} → length d₁ ≡ length d → Filled t c d₁ (length t) → Joinable Least t positions c d₁ (5 * length t + 5)
-  joinable-least l f = record {
-    limit = q .limit;
-    accepted = q .accepted;
+module _ {t positions : List ℕ} {c : ℕ} {d : List ℕ} (q : Fillable t positions d) {d₁ : List ℕ} (l : length d₁ ≡ length d) (chosen : Chosen t c d₁ (length t)) where
+  filled : Filled t c d₁ (length t)
+  filled = chosen-filled (accepted-well-formed true (q .room .limit) t (q .room .accepted)) chosen (omega (arith, q .room .long)) (length t) (omega arith)
+
+  pub joinable-least : Joinable Least t positions c d₁ (5 * length t + 5)
+  joinable-least = record {
+    limit = q .room .limit;
+    accepted = q .room .accepted;
     kept = q .kept;
-    filled = f;
+    filled = filled;
     past-words = omega arith;
-    long = omega (arith, q .long, members-few (fixpoints t) c);
-    narrow = omega (arith, q .narrow);
+    long = omega (arith, q .room .long, members-few (fixpoints t) c);
+    narrow = omega (arith, q .room .narrow);
   }
 
-  module _ {d₁ d₂ : List ℕ} {r₁ : ℕ} (l : length d₁ ≡ length d) (f : Filled t c d₁ (length t)) (j : Joined Least t c d₁ (5 * length t + 5) d₂ r₁) where
+  module _ {d₂ : List ℕ} {r₁ : ℕ} (j : Joined Least t c d₁ (5 * length t + 5) d₂ r₁) where
     pub joinable-greatest : Joinable Greatest t positions c d₂ r₁
     joinable-greatest = record {
-      limit = q .limit;
-      accepted = q .accepted;
+      limit = q .room .limit;
+      accepted = q .room .accepted;
       kept = q .kept;
-      filled = j .filled;
+      filled = filled-later d₂ (5 * length t + 5) filled (omega arith) (omega (arith, q .room .long, j .long)) (j .before);
       past-words = omega (arith, j .after);
-      long = omega (arith, q .long, j .after, j .long, members-few (fixpoints t) c);
-      narrow = omega (arith, j .long, q .narrow);
+      long = omega (arith, q .room .long, j .after, j .long, members-few (fixpoints t) c);
+      narrow = omega (arith, j .long, q .room .narrow);
     }
 
-    pub part-drafted : {d₃ : List ℕ} {r₂ : ℕ} → Joined Greatest t c d₂ r₁ d₃ r₂ → Drafted d₃ (part (fixpoints t) (rule t) c) (r₂ - 1)
-    unfolding part rule
-    part-drafted k =
-        let z : 5 * length t + 5 - 1 ≡ place Opening (length t) = omega arith in
-        let some : 0 < length t = accepted-well-formed true (q .limit) t (q .accepted) .some in
-        rw (foldl-append (bin conj) (formOf Opening t c (length t)) (map (conjunctOf Least t c) (membersOf Least t c)) (map (conjunctOf Greatest t c) (membersOf Greatest t c)))
-        (k .joined _ (j .joined _ (rw z (f .form Opening (length t) some (omega arith)))))
+    module _ {d₃ : List ℕ} {r₂ : ℕ} (k : Joined Greatest t c d₂ r₁ d₃ r₂) where
+      pub part-drafted : Drafted d₃ (part (fixpoints t) (rule t) c) (r₂ - 1)
+      unfolding part rule
+      part-drafted =
+          let z : 5 * length t + 5 - 1 ≡ place Opening (length t) = omega arith in
+          let some : 0 < length t = accepted-well-formed true (q .room .limit) t (q .room .accepted) .some in
+          rw (foldl-append (bin conj) (formOf Opening t c (length t)) (map (conjunctOf Least t c) (membersOf Least t c)) (map (conjunctOf Greatest t c) (membersOf Greatest t c)))
+          (k .joined _ (j .joined _ (rw z (filled .form Opening (length t) some (omega arith)))))
+
+      -- the words are as they were
+      pub still-laid : Laid t d₃ (length t)
+      still-laid =
+          laid-later d₃ (5 * length t + 5) (chosen .laid) (omega arith) (omega (arith, q .room .long, j .long, k .long))
+          (λ i h. k .before i (omega (arith, j .after)) ∙ j .before i h)

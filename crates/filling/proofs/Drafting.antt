@@ -1,22 +1,18 @@
 -- The slots of a word stand for its forms, where those of its operands do.
-use Prim.Native.Nat.{ℕ, suc, _+_, _*_, _≤_, _<_}
-use native.Mathlib.Omega.{arith}
-use native.Mathlib.Nat.{eq-or-lt-of-le}
-use mathlib.Core.Path.{_≡_, refl, sym, ap, _∙_, subst}
-use mathlib.Core.Logic.{_⊎_, inl, inr}
+use Prim.Native.Nat.{ℕ, _<_}
+use mathlib.Core.Path.{_≡_, refl}
 use mathlib.Core.Bool.{Bool, true, false}
 use mathlib.Core.List.{List}
-use lib.ListN.{length, getD}
-use Rattle.logic.specs.Formula.{Formula, Binary, const, bin, conj, disj, until, weak, release, strong, implies, G}
-use Rattle.logic.specs.Rewriting.{steadyOp, steady, recurringOp, recurring, openingOp, opening}
-use Rattle.table.specs.Node.{Shape, none, constant, letter, unary, binary, shape, kind, left, right, leftField, rightField, binaryKind}
+use Rattle.logic.specs.Formula.{Formula, Binary, bin, conj, disj, until, weak, release, strong, implies, G}
+use Rattle.logic.specs.Rewriting.{steadyOp, steady, recurringOp, recurring, opening}
+use Rattle.table.specs.Node.{Shape, none, constant, letter, unary, binary, shape, leftField, rightField, binaryKind}
 use Rattle.table.specs.Table.{formulaBy}
 use Rattle.table.specs.Checks.{isOperand, isProposition}
-use Rattle.draft.specs.Slot.{pack}
+use Rattle.slots.specs.Slot.{pack}
 use Rattle.draft.specs.Drafted.{SlotIs, Drafted}
-use Rattle.filling.specs.declared.rewriting.Rewriting.{Rewriting}
-use Rattle.filling.specs.declared.rewriting.Rewriting.the-variants.{Steady, Recurring, Opening}
-use Rattle.filling.specs.Slots.{by, place, slotBy, openLeft, openRight, globallySlot}
+use Rattle.rewriting.specs.declared.Rewriting.{Rewriting}
+use Rattle.rewriting.specs.declared.Rewriting.the-variants.{Steady, Recurring, Opening}
+use Rattle.rewriting.specs.Slots.{by, place, slotBy, openLeft, openRight, globallySlot}
 
 -- a formula stands at slot j, which is before slot i
 abbrev Earlier : List ℕ → ℕ → Formula → ℕ → Type 0

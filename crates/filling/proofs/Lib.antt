@@ -1,6 +1,4 @@
 -- A choice's draft while it is filled.
-pub mod Places
-pub mod Rewritten
 pub mod Stores
 pub mod Drafting
 pub mod Members

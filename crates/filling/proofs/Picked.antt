@@ -1,16 +1,15 @@
 -- Which words are least and which are greatest fixpoints, by their kinds.
 use Prim.Native.Nat.{ℕ, _≤_, _<_}
-use native.Mathlib.Omega.{arith}
 use mathlib.Core.Path.{_≡_, refl, sym, ap, _∙_}
 use mathlib.Core.Logic.{_⊎_, inl, inr}
-use mathlib.Core.Bool.{Bool, true, false}
+use mathlib.Core.Bool.{true, false}
 use Rattle.logic.specs.Formula.{Formula, Binary, bin, conj, disj, until, weak, release, strong, implies}
 use Rattle.table.specs.Node.{Shape, none, constant, letter, unary, binary, kind, shape, kindOf, binaryKind}
 use Rattle.table.specs.Table.{formulaBy}
 use Rattle.table.proofs.Shapes.{kindOf-shape, shape-binary}
 use Rattle.filling.specs.declared.conjuncts.Fixpoint.{Fixpoint}
 use Rattle.filling.specs.declared.conjuncts.Fixpoint.the-variants.{Least, Greatest}
-use Rattle.filling.specs.Slots.{wordBy}
+use Rattle.rewriting.specs.Slots.{wordBy}
 use Rattle.filling.specs.Conjunct.{picks}
 use Rattle.table.proofs.KindRanges.{two}
 

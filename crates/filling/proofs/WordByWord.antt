@@ -1,35 +1,38 @@
 -- The words of an accepted table, whose slots are filled one after the other.
-use Prim.Native.Nat.{ℕ, suc, _+_, _*_, _^_, _≤_, _<_}
+use Prim.Native.Nat.{ℕ, zero, suc, _+_, _*_, _^_, _≤_, _<_}
 use native.Mathlib.Omega.{arith}
-use native.Mathlib.Nat.{eq-or-lt-of-le}
+use native.Mathlib.Nat.{eq-or-lt-of-le, le-of-suc-le-suc}
 use native.Mathlib.Numerals.{add-one}
-use mathlib.Core.Path.{_≡_, refl, sym, ap, _∙_, subst}
+use mathlib.Core.Path.{_≡_, refl, ap, _∙_, subst}
 use mathlib.Core.Logic.{_⊎_, inl, inr}
-use mathlib.Core.Bool.{Bool, true}
+use mathlib.Core.Bool.{Bool, true, false}
 use mathlib.Core.List.{List}
 use lib.ListN.{length, getD, set, length-set}
 use lib.Seq.{getD-set-same, getD-set-other}
-use Rattle.logic.specs.Formula.{Formula, const, bin, disj, weak, release, G}
+use lib.Dec.{eqb}
+use borrow.Author.Tests.{eqb-true, eqb-false}
+use Rattle.logic.specs.Formula.{Formula, bin, disj, G}
 use Rattle.logic.specs.Rewriting.{steady, opening}
 use Rattle.logic.specs.NormalForm.{isLeast, isGreatest, member, leastOf, greatestOf}
 use Rattle.table.specs.Node.{Shape, none, constant, letter, unary, binary, shape, kind, left, right, leftField, rightField, binaryKind}
 use Rattle.table.specs.Checks.{isBlank, isOperand, isProposition}
-use Rattle.draft.specs.Slot.{pack}
+use Rattle.slots.specs.Slot.{pack}
 use Rattle.table.specs.Table.{formulas, formulaOf}
 use Rattle.table.specs.Steps.{fixpoints}
 use Rattle.table.specs.StepChecks.{isFixpointWord}
 use Rattle.table.proofs.Accepted.{WellFormed, accepted-formula}
 use Rattle.draft.specs.Drafted.{SlotIs, Drafted}
 use Rattle.draft.proofs.Drafts.{drafted-below, slot-below}
-use Rattle.filling.specs.declared.rewriting.Rewriting.{Rewriting}
-use Rattle.filling.specs.declared.rewriting.Rewriting.the-variants.{Steady, Recurring, Opening}
+use Rattle.rewriting.specs.declared.Rewriting.{Rewriting}
+use Rattle.rewriting.specs.declared.Rewriting.the-variants.{Steady, Recurring, Opening}
 use Rattle.filling.specs.declared.conjuncts.Fixpoint.the-variants.{Least, Greatest}
-use Rattle.filling.specs.Slots.{by, place, wordBy, globallySlot, Plain, WordFilled}
-use Rattle.filling.specs.Filled.{formOf, Filled}
-use Rattle.fixpoints.specs.Positions.{digit, bitOf, Kept}
-use Rattle.filling.proofs.Places.{place-fits, place-before}
+use Rattle.rewriting.specs.Slots.{by, place, wordBy, globallySlot, Plain, Rewritten, Slotted, WordChosen, WordFilled}
+use Rattle.filling.specs.Filled.{formOf, Laid, Chosen, Filled}
+use Rattle.logic.specs.Bit.{bit}
+use Rattle.fixpoints.specs.Positions.{bitOf, Kept}
+use Rattle.rewriting.proofs.Places.{place-fits, place-before}
 use Rattle.fixpoints.proofs.UntilLike.{member-fixpoint}
-use Rattle.filling.proofs.Members.{picked-word}
+use Rattle.filling.proofs.Members.{picked-word, not-picked}
 use Rattle.filling.proofs.Drafting.{Operands, Always, steady-drafted, recurring-drafted, opening-drafted, always-drafted}
 
 -- a slot that is as it was said to be
@@ -74,16 +77,107 @@ filled-later {t} {c} {d} e {i} k q h l same = record {
   form = λ m j p r. drafted-below d e k l same (formOf m t c j) (place m j) (place-fits m j k (omega arith)) (q .form m j p r);
 }
 
-pub filled-none : (t : List ℕ) (c : ℕ) (d : List ℕ) → 1 < length d → Filled t c (set (set d 0 (pack 1 0 0)) 1 (pack 2 0 0)) 0
-filled-none t c d h = record {
-  false-slot = slot-at (simp length-set (omega arith)) (getD-set-other (set d 0 (pack 1 0 0)) 1 0 (pack 2 0 0) 0 (omega arith) ∙ getD-set-same d 0 (pack 1 0 0) 0 (omega arith));
-  true-slot = slot-at (simp length-set (omega arith)) (getD-set-same (set d 0 (pack 1 0 0)) 1 (pack 2 0 0) 0 (simp length-set (omega arith)));
-  form = λ m j p l. absurd (omega arith);
+-- the slots of a word are as they were where they hold the same
+slotted-same : {w j : ℕ} {b : Bool} {d e : List ℕ} → ((i : ℕ) → place Steady j ≤ i → i ≤ place Opening j → getD e i 0 ≡ getD d i 0) → Slotted w j b d → Slotted w j b e
+slotted-same {j = j} same s = record {
+  steady-slot = rw (same (place Steady j) (omega arith) (omega arith)) (s .steady-slot);
+  recurring-slot = rw (same (place Recurring j) (omega arith) (omega arith)) (s .recurring-slot);
+  always-slot = rw (same (5 * j + 2) (omega arith) (omega arith)) (s .always-slot);
+  either-slot = rw (same (5 * j + 3) (omega arith) (omega arith)) (s .either-slot);
+  opening-slot = rw (same (place Opening j) (omega arith) (omega arith)) (s .opening-slot);
 }
 
-module _ {limit : ℕ} {t : List ℕ} (f : WellFormed true limit t) {c i : ℕ} (h : i < length t) {d e : List ℕ} {chosen : Bool} (q : Filled t c d i)
-    (w : WordFilled (getD t i 0) (suc i) chosen d e) (long : place Opening (suc i) < length d)
-    (bit : isFixpointWord (getD t i 0) ≡ true → chosen ≡ digit c (bitOf t i)) where
+pub laid-later : {t d : List ℕ} (e : List ℕ) {n : ℕ} (k : ℕ) → Laid t d n → place Opening n < k → k ≤ length e → ((j : ℕ) → j < k → getD e j 0 ≡ getD d j 0) → Laid t e n
+laid-later {d = d} e k q h l same = record {
+  false-slot = slot-below d e k l same (omega arith) (q .false-slot);
+  true-slot = slot-below d e k l same (omega arith) (q .true-slot);
+  slots = λ i p. let x = q .slots i p in (x .0, slotted-same (λ j _ r. same j (omega arith)) (x .1));
+}
+
+pub laid-none : (t d : List ℕ) → 1 < length d → Laid t (set (set d 0 (pack 1 0 0)) 1 (pack 2 0 0)) 0
+laid-none t d h = record {
+  false-slot = slot-at (simp length-set (omega arith)) (getD-set-other (set d 0 (pack 1 0 0)) 1 0 (pack 2 0 0) 0 (omega arith) ∙ getD-set-same d 0 (pack 1 0 0) 0 (omega arith));
+  true-slot = slot-at (simp length-set (omega arith)) (getD-set-same (set d 0 (pack 1 0 0)) 1 (pack 2 0 0) 0 (simp length-set (omega arith)));
+  slots = λ i p. absurd (omega arith);
+}
+
+-- one word more
+pub laid-more : {t d e : List ℕ} {i : ℕ} → Laid t d i → WordFilled (getD t i 0) (suc i) d e → place Opening (suc i) < length d → Laid t e (suc i)
+laid-more {t} {d} {e} {i} q w long = record {
+  false-slot = before .false-slot;
+  true-slot = before .true-slot;
+  slots = λ k l. go k (eq-or-lt-of-le (le-of-suc-le-suc l));
+}
+  where
+    before : Laid t e i
+    before = laid-later e (place Steady (suc i)) q (omega arith) (omega (arith, w .long)) (w .before)
+
+    go : (k : ℕ) → (k ≡ i) ⊎ (k < i) → (chosen : Bool) × Slotted (getD t k 0) (suc k) chosen e
+    go k (inl z) = (false, rw z (w .slots))
+    go k (inr l) = before .slots k l
+
+pub chosen-none : {t d : List ℕ} (c : ℕ) → Laid t d (length t) → Chosen t c d 0
+chosen-none c q = record { laid = q; slots = λ i p. absurd (omega arith) }
+
+module _ {t : List ℕ} {c : ℕ} {d : List ℕ} {i : ℕ} (q : Chosen t c d i) (h : i < length t) where
+  -- of a word that is not until-like the slots are the same whatever the choice
+  pub chosen-other : kind (getD t i 0) < 16 → isFixpointWord (getD t i 0) ≡ false → Chosen t c d (suc i)
+  chosen-other small e = record { laid = q .laid; slots = λ k l. go k (eq-or-lt-of-le (le-of-suc-le-suc l)) }
+    where
+      either : (m : Rewriting) {b : Bool} (b′ : Bool) {l r x : ℕ} → Rewritten m (getD t i 0) b l r x → Rewritten m (getD t i 0) b′ l r x
+      either m b′ s = record {
+        is = λ M N a b _ _. s .is M N a b (λ p. absurd (not-picked Least (getD t i 0) small e a b p)) (λ p. absurd (not-picked Greatest (getD t i 0) small e a b p));
+      }
+
+      go : (k : ℕ) → (k ≡ i) ⊎ (k < i) → Slotted (getD t k 0) (suc k) (bit c (bitOf t k)) d
+      go k (inl z) =
+          let s = q .laid .slots i h .1 in rw z (record {
+            steady-slot = either Steady _ (s .steady-slot);
+            recurring-slot = either Recurring _ (s .recurring-slot);
+            always-slot = s .always-slot;
+            either-slot = s .either-slot;
+            opening-slot = s .opening-slot;
+          })
+      go k (inr l) = q .slots k l
+
+  -- of any word they are those of the choice once the two that ask for it were written
+  module _ {b : Bool} {e : List ℕ} (w : WordChosen (getD t i 0) (suc i) b d e) where
+    written : Slotted (getD t i 0) (suc i) b e
+    written =
+        let s = q .laid .slots i h .1 in record {
+          steady-slot = w .steady-slot;
+          recurring-slot = w .recurring-slot;
+          always-slot = rw (w .others (5 * suc i + 2) (omega arith) (omega arith)) (s .always-slot);
+          either-slot = rw (w .others (5 * suc i + 3) (omega arith) (omega arith)) (s .either-slot);
+          opening-slot = rw (w .others (place Opening (suc i)) (omega arith) (omega arith)) (s .opening-slot);
+        }
+
+    another : {k : ℕ} {b : Bool} → (k ≡ i → ⊥) → Slotted (getD t k 0) (suc k) b d → Slotted (getD t k 0) (suc k) b e
+    another f = slotted-same (λ j l r. w .others j (λ z. f (omega arith)) (λ z. f (omega arith)))
+
+    slot-kept : {j s : ℕ} → j < 2 → SlotIs d j s → SlotIs e j s
+    slot-kept l s = slot-at (omega (arith, s .within, w .long)) (w .others _ (omega arith) (omega arith) ∙ s .is)
+
+    pub chosen-more : b ≡ bit c (bitOf t i) → Chosen t c e (suc i)
+    chosen-more is = record {
+      laid = record {
+        false-slot = slot-kept (omega arith) (q .laid .false-slot);
+        true-slot = slot-kept (omega arith) (q .laid .true-slot);
+        slots = λ k l. any k l (eqb k i) refl;
+      };
+      slots = λ k l. go k (eq-or-lt-of-le (le-of-suc-le-suc l));
+    }
+      where
+        any : (k : ℕ) → k < length t → (y : Bool) → eqb k i ≡ y → (chosen : Bool) × Slotted (getD t k 0) (suc k) chosen e
+        any k l true z = (b, rw (eqb-true k i z) written)
+        any k l false z = let s = q .laid .slots k l in (s .0, another (eqb-false k i z) (s .1))
+
+        go : (k : ℕ) → (k ≡ i) ⊎ (k < i) → Slotted (getD t k 0) (suc k) (bit c (bitOf t k)) e
+        go k (inl z) = rw (z, ← is) written
+        go k (inr l) = another (λ z. omega arith) (q .slots k l)
+
+module _ {limit : ℕ} {t : List ℕ} (f : WellFormed true limit t) {c i : ℕ} (h : i < length t) {d : List ℕ} (q : Filled t c d i)
+    (w : Slotted (getD t i 0) (suc i) (bit c (bitOf t i)) d) (long : place Opening (suc i) < length d) where
   M : Formula → Bool
   M = member (leastOf (fixpoints t) c)
 
@@ -96,17 +190,10 @@ module _ {limit : ℕ} {t : List ℕ} (f : WellFormed true limit t) {c i : ℕ} 
   b : Formula
   b = formulaOf (formulas t) (right (getD t i 0))
 
-  -- the slots before stay
-  stays : (φ : Formula) (k : ℕ) → k < place Steady (suc i) → Drafted d φ k → Drafted e φ k
-  stays = drafted-below d e (place Steady (suc i)) (omega (arith, w .long)) (w .before)
+  earlier : (m : Rewriting) (j : ℕ) → 0 < j → j < suc i → (place m j < place Steady (suc i)) × Drafted d (formOf m t c j) (place m j)
+  earlier m j p l = (place-before m j (suc i) l, q .form m j p (omega arith))
 
-  stays-slot : {k s : ℕ} → k < place Steady (suc i) → SlotIs d k s → SlotIs e k s
-  stays-slot = slot-below d e (place Steady (suc i)) (omega (arith, w .long)) (w .before)
-
-  earlier : (m : Rewriting) (j : ℕ) → 0 < j → j < suc i → (place m j < place Steady (suc i)) × Drafted e (formOf m t c j) (place m j)
-  earlier m j p l = let z = place-before m j (suc i) l in (z, stays (formOf m t c j) (place m j) z (q .form m j p (omega arith)))
-
-  operands : (k : ℕ) → place Steady (suc i) ≤ k → Operands e M N (shape (kind (getD t i 0))) k (right (getD t i 0)) (left (getD t i 0)) (right (getD t i 0)) a b
+  operands : (k : ℕ) → place Steady (suc i) ≤ k → Operands d M N (shape (kind (getD t i 0))) k (right (getD t i 0)) (left (getD t i 0)) (right (getD t i 0)) a b
   unfolding M N a b
   operands k l = record {
     left-form = λ o m. let z = f .word i h .operand-left o in let y = earlier m (left (getD t i 0)) (z .0) (z .1) in (omega (arith, y .0), y .1);
@@ -114,29 +201,29 @@ module _ {limit : ℕ} {t : List ℕ} (f : WellFormed true limit t) {c i : ℕ} 
     letter-small = λ o. omega (arith, f .word i h .letter o);
   }
 
-  inside : (m : Rewriting) → place m (suc i) < length e
-  inside m = place-fits m (suc i) (length e) (omega (arith, w .long))
+  inside : (m : Rewriting) → place m (suc i) < length d
+  inside m = place-fits m (suc i) (length d) long
 
   formula : formulaOf (formulas t) (suc i) ≡ wordBy (getD t i 0) a b
   unfolding formulaOf a b
   formula = accepted-formula f i h
 
-  in-M : isLeast (wordBy (getD t i 0) a b) ≡ true → M (wordBy (getD t i 0) a b) ≡ chosen
+  in-M : isLeast (wordBy (getD t i 0) a b) ≡ true → M (wordBy (getD t i 0) a b) ≡ bit c (bitOf t i)
   unfolding formulaOf M leastOf
-  in-M = subst (λ (φ : Formula). isLeast φ ≡ true → M φ ≡ chosen) formula (λ p. let x = picked-word f i h Least p in member-fixpoint f i h isLeast c p x ∙ sym (bit x))
+  in-M = subst (λ (φ : Formula). isLeast φ ≡ true → M φ ≡ bit c (bitOf t i)) formula (λ p. member-fixpoint f i h isLeast c p (picked-word f i h Least p))
 
-  in-N : isGreatest (wordBy (getD t i 0) a b) ≡ true → N (wordBy (getD t i 0) a b) ≡ chosen
+  in-N : isGreatest (wordBy (getD t i 0) a b) ≡ true → N (wordBy (getD t i 0) a b) ≡ bit c (bitOf t i)
   unfolding formulaOf N greatestOf
-  in-N = subst (λ (φ : Formula). isGreatest φ ≡ true → N φ ≡ chosen) formula (λ p. let x = picked-word f i h Greatest p in member-fixpoint f i h isGreatest c p x ∙ sym (bit x))
+  in-N = subst (λ (φ : Formula). isGreatest φ ≡ true → N φ ≡ bit c (bitOf t i)) formula (λ p. member-fixpoint f i h isGreatest c p (picked-word f i h Greatest p))
 
-  or-always : (φ ψ : Formula) (x y : ℕ) → getD e (5 * suc i + 2) 0 ≡ globallySlot x → getD e (5 * suc i + 3) 0 ≡ pack (binaryKind disj) y (5 * suc i + 2)
-      → (y < place Steady (suc i)) × Drafted e φ y → (x < place Steady (suc i)) × Drafted e ψ x → Drafted e (bin disj φ (G ψ)) (5 * suc i + 3)
+  or-always : (φ ψ : Formula) (x y : ℕ) → getD d (5 * suc i + 2) 0 ≡ globallySlot x → getD d (5 * suc i + 3) 0 ≡ pack (binaryKind disj) y (5 * suc i + 2)
+      → (y < place Steady (suc i)) × Drafted d φ y → (x < place Steady (suc i)) × Drafted d ψ x → Drafted d (bin disj φ (G ψ)) (5 * suc i + 3)
   or-always φ ψ x y g o m n =
-      always-drafted φ ψ (5 * suc i + 2) (5 * suc i + 3) x y (stays-slot (omega arith) (q .false-slot))
-      (slot-at (omega (arith, w .long)) g) (slot-at (omega (arith, w .long)) o)
+      always-drafted φ ψ (5 * suc i + 2) (5 * suc i + 3) x y (q .false-slot)
+      (slot-at (omega arith) g) (slot-at (omega arith) o)
       (omega arith) (omega (arith, n .0)) (omega (arith, m .0)) (omega arith) (m .1) (n .1)
 
-  always : Always e M (shape (kind (getD t i 0))) (place Opening (suc i)) (5 * suc i + 3) (left (getD t i 0)) (right (getD t i 0)) a b
+  always : Always d M (shape (kind (getD t i 0))) (place Opening (suc i)) (5 * suc i + 3) (left (getD t i 0)) (right (getD t i 0)) a b
   always = record {
     of-weak = λ s.
         let l = operands (place Steady (suc i)) (omega arith) .left-form (ap (λ (x : Shape). isOperand (leftField x)) s) Steady in
@@ -152,23 +239,29 @@ module _ {limit : ℕ} {t : List ℕ} (f : WellFormed true limit t) {c i : ℕ} 
         );
   }
 
-  new : (m : Rewriting) → Drafted e (by m M N (wordBy (getD t i 0) a b)) (place m (suc i))
+  new : (m : Rewriting) → Drafted d (by m M N (wordBy (getD t i 0) a b)) (place m (suc i))
   new Steady = steady-drafted (shape (kind (getD t i 0))) (operands (place Steady (suc i)) (omega arith)) (slot-at (inside Steady) (w .steady-slot .is M N a b in-M in-N))
   new Recurring = recurring-drafted (shape (kind (getD t i 0))) (operands (place Recurring (suc i)) (omega arith)) (slot-at (inside Recurring) (w .recurring-slot .is M N a b in-M in-N))
   new Opening = opening-drafted (shape (kind (getD t i 0))) (operands (place Opening (suc i)) (omega arith)) always (slot-at (inside Opening) (w .opening-slot .is M a b))
 
-  pub filled-more : Filled t c e (suc i)
+  filled-more : Filled t c d (suc i)
   unfolding M N
   filled-more = record {
-    false-slot = stays-slot (omega arith) (q .false-slot);
-    true-slot = stays-slot (omega arith) (q .true-slot);
+    false-slot = q .false-slot;
+    true-slot = q .true-slot;
     form = λ m j p l. form m j p (eq-or-lt-of-le l);
   }
     where
-      form : (m : Rewriting) (j : ℕ) → 0 < j → (j ≡ suc i) ⊎ (j < suc i) → Drafted e (formOf m t c j) (place m j)
+      form : (m : Rewriting) (j : ℕ) → 0 < j → (j ≡ suc i) ⊎ (j < suc i) → Drafted d (formOf m t c j) (place m j)
       form m j p (inl z) = rw (z, formula) (new m)
       form m j p (inr l) = earlier m j p l .1
 
+-- slots that are those of a choice stand for its forms
+pub chosen-filled : {limit : ℕ} {t : List ℕ} → WellFormed true limit t → {c : ℕ} {d : List ℕ} → Chosen t c d (length t) → place Opening (length t) < length d
+    → (n : ℕ) → n ≤ length t → Filled t c d n
+chosen-filled f q long zero h = record { false-slot = q .laid .false-slot; true-slot = q .laid .true-slot; form = λ m j p l. absurd (omega arith) }
+chosen-filled f q long (suc n) h = filled-more f h (chosen-filled f q long n (omega arith)) (q .slots n h) (omega arith)
+
 -- the bit of a word, by the position that is kept of it
-pub kept-bit : {t positions : List ℕ} (c : ℕ) {i : ℕ} {r : Bool} → Kept t positions (length t) → i < length t → r ≡ digit c (getD positions (i + 1) 0) → r ≡ digit c (bitOf t i)
-kept-bit c {i} q h x = x ∙ ap (digit c) (rw (add-one i) (q .position i h))
+pub kept-bit : {t positions : List ℕ} (c : ℕ) {i : ℕ} {r : Bool} → Kept t positions (length t) → i < length t → r ≡ bit c (getD positions (i + 1) 0) → r ≡ bit c (bitOf t i)
+kept-bit c {i} q h x = x ∙ ap (bit c) (rw (add-one i) (q .position i h))

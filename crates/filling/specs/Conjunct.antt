@@ -8,16 +8,15 @@ use Rattle.logic.specs.Formula.{Formula, bin, conj, F, G}
 use Rattle.logic.specs.NormalForm.{isLeast, isGreatest, leastOf, greatestOf}
 use Rattle.table.specs.Steps.{fixpoints}
 use Rattle.draft.specs.Drafted.{Drafted}
-use Rattle.filling.specs.declared.rewriting.Rewriting.{Rewriting}
-use Rattle.filling.specs.declared.rewriting.Rewriting.the-variants.{Steady, Recurring, Opening}
+use Rattle.rewriting.specs.declared.Rewriting.the-variants.{Steady, Recurring, Opening}
 use Rattle.filling.specs.declared.conjuncts.Fixpoint.{Fixpoint}
 use Rattle.filling.specs.declared.conjuncts.Fixpoint.the-variants.{Least, Greatest}
-use Rattle.table.specs.declared.refusal.Outcome.the-variants.{Accepted}
+use Rattle.refusals.specs.declared.Outcome.the-variants.{Accepted}
 use Rattle.table.specs.Checks.{checked}
 use Rattle.table.specs.Node.{binaryKind}
-use Rattle.draft.specs.Slot.{pack}
+use Rattle.slots.specs.Slot.{pack}
 use Rattle.fixpoints.specs.Positions.{Kept}
-use Rattle.filling.specs.Slots.{place, finallySlot, globallySlot}
+use Rattle.rewriting.specs.Slots.{place, finallySlot, globallySlot}
 use Rattle.filling.specs.Filled.{rewritten, Filled}
 
 abbrev pub picks : Fixpoint → Formula → Bool
@@ -83,6 +82,6 @@ pub record Joinable (x : Fixpoint) (t positions : List ℕ) (c : ℕ) (d : List 
 -- the conjuncts were joined to what the slot before `first` stands for
 pub record Joined (x : Fixpoint) (t : List ℕ) (c : ℕ) (d : List ℕ) (first : ℕ) (e : List ℕ) (r : ℕ) : Type 0 where
   pub long : length e ≡ length d
-  pub filled : Filled t c e (length t)
+  pub before : (i : ℕ) → i < first → getD e i 0 ≡ getD d i 0
   pub after : r ≡ first + 3 * conjuncts x t c
   pub joined : (φ : Formula) → Drafted d φ (first - 1) → Drafted e (conjoined x t c (membersOf x t c) φ) (r - 1)

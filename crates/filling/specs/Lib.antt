@@ -1,4 +1,3 @@
--- A choice's draft: the slots of each word's forms, and the conjuncts after them.
-pub mod Slots
+-- A choice's draft: the forms of all words, and the conjuncts after them.
 pub mod Filled
 pub mod Conjunct

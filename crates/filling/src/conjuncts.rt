@@ -1,13 +1,12 @@
 // The conjuncts of a part: GF of the recurring form of each chosen least fixpoint, and FG of the steady form of each chosen greatest one.
-use crate::rewriting;
-use crate::rewriting::Rewriting;
-use draft::slot;
+use rewriting::Rewriting;
+use slots::slot;
 use table::kinds;
 use table::word;
 ghost use Prim.Native.Nat.{_<_};
 ghost use mathlib.Core.Path.{_≡_};
 ghost use Rattle.logic.specs.Formula.{Formula};
-ghost use Rattle.filling.specs.Slots.{wordBy};
+ghost use Rattle.rewriting.specs.Slots.{wordBy};
 ghost use Rattle.filling.specs.Conjunct.{picks, formSlot, innerSlot, outerSlot, Conjoinable, Conjoined, Joinable, Joined};
 
 pub enum Fixpoint {

@@ -11,9 +11,9 @@ use lib.ListN.{length, getD, drop, set, length-set}
 use lib.Seq.{take-length, drop-cons, drop-length, getD-set-same, getD-set-other}
 use Rattle.logic.specs.Formula.{const}
 use Rattle.logic.specs.NormalForm.{keep}
-use Rattle.table.specs.declared.refusal.Refusal.the-variants.{TooManyFixpoints}
-use Rattle.table.specs.declared.refusal.Outcome.the-variants.{Accepted}
-use Rattle.table.specs.Refusals.{first, decideBy}
+use Rattle.refusals.specs.declared.Refusal.the-variants.{TooManyFixpoints}
+use Rattle.refusals.specs.declared.Outcome.the-variants.{Accepted}
+use Rattle.refusals.specs.Refusals.{first, decideBy}
 use Rattle.table.specs.Steps.{fixpoints}
 use Rattle.table.specs.StepChecks.{isFixpointWord, fixpointChecks}
 use Rattle.table.specs.Table.{formulas}

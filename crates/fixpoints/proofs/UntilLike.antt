@@ -4,14 +4,13 @@ use native.Mathlib.Omega.{arith}
 use native.Mathlib.Nat.{div-div-eq-div-mul, div-one, mul-comm}
 use native.Mathlib.Numerals.{unary-clauses}
 use mathlib.Core.Path.{_≡_, refl, sym, ap, _∙_, subst}
-use mathlib.Core.Logic.{⊎-elim}
 use mathlib.Core.Bool.{Bool, true, false, cond, _||_, _&&_}
-use mathlib.Core.List.{List, [], _∷_, _++_, List·Memᴰ, List·Memᴰ·head, List·Memᴰ·tail, List·Memᴰ·cases-cons}
+use mathlib.Core.List.{List, [], _∷_, _++_, List·Memᴰ, List·Memᴰ·head}
 use lib.ListN.{length, getD, take, drop, length-drop, length-append}
 use lib.Seq.{split-at, take-suc, take-length, getD-take, getD-drop, getD-append-seam, length-take-le}
 use lib.Dec.{T, eqb, leb}
 use Rattle.logic.specs.Formula.{Formula, const, same, next, neg, finally, globally, conj, disj, until, weak, release, strong, implies}
-use Rattle.logic.specs.NormalForm.{isLeast, isGreatest, isFixpoint, keep, member, chosen, leastOf, greatestOf}
+use Rattle.logic.specs.NormalForm.{isFixpoint, keep, member, chosen}
 use Rattle.table.specs.Node.{Shape, none, constant, letter, unary, binary, kind, shape, kindOf}
 use Rattle.table.specs.Table.{formulaBy, formulas, formulasAfter}
 use Rattle.table.specs.Steps.{fixpoints}
@@ -19,7 +18,8 @@ use Rattle.table.specs.StepChecks.{isFixpointWord}
 use Rattle.table.proofs.Accepted.{WellFormed, accepted-formula}
 use Rattle.table.proofs.Formulas.{take-formulas, length-formulas}
 use Rattle.logic.proofs.Normal.Membership.{mem-of-member, member-of-mem, mem-keep}
-use Rattle.fixpoints.specs.Positions.{digit, bitOf}
+use Rattle.logic.specs.Bit.{bit}
+use Rattle.fixpoints.specs.Positions.{bitOf}
 use Rattle.table.proofs.Shapes.{kindOf-shape}
 use Rattle.normal_laws.proofs.Chosen.{keep-append, mem-chosen, mem-place}
 use Rattle.normal_laws.proofs.Distinct.{formulas-differ}
@@ -62,8 +62,8 @@ member-here l φ = go (member (φ ∷ l) φ) refl
 
 -- whether a formula that is listed once is chosen is told by its own bit
 pub member-chosen : (p : Formula → Bool) (xs : List Formula) (y : Formula) (ys : List Formula) (c : ℕ) → p y ≡ true
-    → (List·Memᴰ y xs → ⊥) → (List·Memᴰ y ys → ⊥) → member (keep p (chosen (xs ++ y ∷ ys) c)) y ≡ digit c (length xs)
-unfolding chosen
+    → (List·Memᴰ y xs → ⊥) → (List·Memᴰ y ys → ⊥) → member (keep p (chosen (xs ++ y ∷ ys) c)) y ≡ bit c (length xs)
+unfolding chosen bit
 member-chosen p xs y ys c e f g =
     ap (λ (l : List Formula). member (keep p l) y) (chosen-append xs (y ∷ ys) c)
     ∙ ap (λ (l : List Formula). member l y) (keep-append p (chosen xs c) _)
@@ -98,11 +98,13 @@ fixpoint-shape (binary release) n a b = refl
 fixpoint-shape (binary strong) n a b = refl
 fixpoint-shape (binary implies) n a b = refl
 
+-- whatever its operands stand for
+pub fixpoint-word : (w : ℕ) → kind w < 16 → (n : ℕ) (a b : Formula) → isFixpoint (formulaBy (shape (kind w)) n a b) ≡ isFixpointWord w
+fixpoint-word w k n a b = fixpoint-shape (shape (kind w)) n a b ∙ ap (λ (n : ℕ). leb 8 n && leb n 11) (kindOf-shape (kind w) k)
+
 module _ {limit : ℕ} {t : List ℕ} (f : WellFormed true limit t) (i : ℕ) (h : i < length t) where
   pub word-fixpoint : isFixpoint (getD (formulas t) i (const false)) ≡ isFixpointWord (getD t i 0)
-  word-fixpoint =
-      let k : kind (getD t i 0) < 16 = omega (arith, f .word i h .plain refl) in
-      rw (accepted-formula f i h) (fixpoint-shape (shape (kind (getD t i 0))) _ _ _ ∙ ap (λ (n : ℕ). leb 8 n && leb n 11) (kindOf-shape (kind (getD t i 0)) k))
+  word-fixpoint = rw (accepted-formula f i h) (fixpoint-word (getD t i 0) (omega (arith, f .word i h .plain refl)) _ _ _)
 
   -- one word more is one formula more if it is until-like
   pub fixpoints-step : fixpoints (take (suc i) t) ≡ fixpoints (take i t) ++ cond (isFixpointWord (getD t i 0)) (getD (formulas t) i (const false) ∷ []) []
@@ -178,8 +180,8 @@ module _ {limit : ℕ} {t : List ℕ} (f : WellFormed true limit t) where
 
     -- and that bit of a choice tells whether it is chosen
     pub member-fixpoint : (p : Formula → Bool) (c : ℕ) → p (getD (formulas t) i (const false)) ≡ true → isFixpointWord (getD t i 0) ≡ true
-        → member (keep p (chosen (fixpoints t) c)) (getD (formulas t) i (const false)) ≡ digit c (bitOf t i)
+        → member (keep p (chosen (fixpoints t) c)) (getD (formulas t) i (const false)) ≡ bit c (bitOf t i)
     member-fixpoint p c e g =
         ap (λ (l : List Formula). member (keep p (chosen l c)) (getD (formulas t) i (const false))) (fixpoints-split g)
         ∙ member-chosen p (fixpoints (take i t)) (getD (formulas t) i (const false)) (keep isFixpoint (drop (suc i) (formulas t))) c e before-differ after-differ
-        ∙ ap (digit c) (bits-before i (omega arith))
+        ∙ ap (bit c) (bits-before i (omega arith))

@@ -1,14 +1,13 @@
 -- The bit of each until-like word in the number of a choice, and the positions that are kept of them.
-use Prim.Native.Nat.{ℕ, suc, _^_, _/_, _%_, _<_}
+use Prim.Native.Nat.{ℕ, suc, _<_}
 use mathlib.Core.Path.{_≡_}
 use mathlib.Core.Bool.{Bool, true}
 use mathlib.Core.List.{List}
 use lib.ListN.{length, getD, take}
-use lib.Dec.{eqb}
 use Rattle.logic.specs.NormalForm.{keep}
-use Rattle.table.specs.declared.refusal.Refusal.the-variants.{TooManyFixpoints}
-use Rattle.table.specs.declared.refusal.Outcome.the-variants.{Accepted, Refused}
-use Rattle.table.specs.Refusals.{first}
+use Rattle.refusals.specs.declared.Refusal.the-variants.{TooManyFixpoints}
+use Rattle.refusals.specs.declared.Outcome.the-variants.{Accepted, Refused}
+use Rattle.refusals.specs.Refusals.{first}
 use Rattle.table.specs.Checks.{checked}
 use Rattle.table.specs.Steps.{fixpoints}
 use Rattle.table.specs.StepChecks.{isFixpointWord, fixpointChecks}
@@ -17,10 +16,6 @@ use Rattle.table.specs.StepChecks.{isFixpointWord, fixpointChecks}
 -- The bit number of the word with i words before it: how many of those are until-like
 abbrev pub bitOf : List ℕ → ℕ → ℕ
 bitOf t i = length (keep isFixpointWord (take i t))
-
--- whether bit b of a choice is 1
-abbrev pub digit : ℕ → ℕ → Bool
-digit c b = eqb (c / 2 ^ b % 2) 1
 
 -- an accepted plain table, of whose choices each is a number of 32 bits, and a place for the position of each word
 pub record Keepable (t positions : List ℕ) : Type 0 where

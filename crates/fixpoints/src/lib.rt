@@ -4,9 +4,10 @@ use table::word;
 ghost use Prim.Native.Nat.{_<_};
 ghost use mathlib.Core.Path.{_≡_};
 ghost use lib.ListN.{length, getD};
+ghost use Rattle.logic.specs.Bit.{bit};
 ghost use Rattle.table.specs.Steps.{fixpoints};
 ghost use Rattle.table.specs.StepChecks.{isFixpointWord};
-ghost use Rattle.fixpoints.specs.Positions.{digit, Keepable, Kept, Past};
+ghost use Rattle.fixpoints.specs.Positions.{Keepable, Kept, Past};
 
 pub fn is_fixpoint(w: u32) -> bool
     ensures { λ r. ⌜ r ≡ isFixpointWord w ⌝ }
@@ -55,7 +56,7 @@ pub fn count(table: &[u32], positions: &mut [u8]) -> u32
 // Whether the choice has the bit whose position is kept at number j. Only of until-like words does the answer matter.
 pub fn chosen(positions: &[u8], choice: u32, j: usize) -> bool
     requires { ⌜ (j < length (now positions)) × (getD (now positions) j 0 < 32) ⌝ }
-    ensures { λ r. ⌜ r ≡ digit choice (getD (now (positions .entry)) j 0) ⌝ }
+    ensures { λ r. ⌜ r ≡ bit choice (getD (now (positions .entry)) j 0) ⌝ }
 {
     (choice >> positions[j]) & 1 == 1
 }

@@ -8,9 +8,9 @@ use native.Mathlib.Omega.{arith}
 use lib.Dec.{ltb}
 use lib.ListN.{length, getD, drop}
 use lib.Seq.{drop-cons, drop-length}
-use Rattle.table.specs.declared.refusal.Refusal.the-variants.{LetterNotDriven}
-use Rattle.table.specs.declared.refusal.Outcome.the-variants.{Accepted, Refused}
-use Rattle.table.specs.Refusals.{first, decideBy}
+use Rattle.refusals.specs.declared.Refusal.the-variants.{LetterNotDriven}
+use Rattle.refusals.specs.declared.Outcome.the-variants.{Accepted, Refused}
+use Rattle.refusals.specs.Refusals.{first, decideBy}
 use Rattle.table.specs.Node.{Shape, none, kind, right, shapes, shape, rightField}
 use Rattle.table.specs.Checks.{isProposition}
 use Rattle.table.specs.StepChecks.{isUndriven, letterChecks}

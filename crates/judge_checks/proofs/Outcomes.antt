@@ -6,15 +6,15 @@ use mathlib.Core.List.{List, _++_}
 use native.Mathlib.Omega.{arith}
 use lib.ListN.{length}
 use borrow.Author.Tests.{ltb-false, leb-false, eqb-false, ne-eqb, le-ltb, lt-leb}
-use Rattle.table.specs.declared.refusal.Refusal.{Refusal}
-use Rattle.table.specs.declared.refusal.Outcome.the-variants.{Accepted, Refused}
-use Rattle.table.specs.Refusals.{Check, first}
+use Rattle.refusals.specs.declared.Refusal.{Refusal}
+use Rattle.refusals.specs.declared.Outcome.the-variants.{Accepted, Refused}
+use Rattle.refusals.specs.Refusals.{Check, first}
 use Rattle.table.specs.Checks.{tableChecks, checked}
 use Rattle.table.specs.StepChecks.{drivenChecks, letterChecks}
 use Rattle.row_words.specs.Row.{rowWords}
 use Rattle.judge_checks.specs.Checks.{recordingChecks, scratchChecks, tallyChecks, rowChecks, judgeChecks}
-use Rattle.judge_checks.specs.declared.tally.Tally.{Tally}
-use Rattle.table.proofs.First.{Passed, first-passed, passed-first, first-append-accepted, first-append-refused, first-append-both}
+use Rattle.tally.specs.declared.Tally.{Tally}
+use Rattle.refusals.proofs.First.{Passed, first-passed, passed-first, first-append-accepted, first-append-refused, first-append-both}
 
 -- a table, a recording and a scratch that the row call accepts
 pub record Judgeable (t : List ℕ) (samples start driven scratch : ℕ) : Type 0 where

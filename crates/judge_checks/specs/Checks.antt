@@ -5,12 +5,12 @@ use mathlib.Core.List.{List, [], _∷_, _++_}
 use lib.ListN.{length}
 use lib.Dec.{ltb, leb, eqb}
 use Rattle.row_words.specs.Row.{rowWords}
-use Rattle.table.specs.declared.refusal.Refusal.the-variants.{NoSample, TooManySamples, LoopStartOutside, ScratchTooShort, TallyFull}
-use Rattle.table.specs.Refusals.{Check, _⇒_}
+use Rattle.refusals.specs.declared.Refusal.the-variants.{NoSample, TooManySamples, LoopStartOutside, ScratchTooShort, TallyFull}
+use Rattle.refusals.specs.Refusals.{Check, _⇒_}
 use Rattle.table.specs.Checks.{tableChecks}
 use Rattle.table.specs.StepChecks.{drivenChecks, letterChecks}
-use Rattle.judge_checks.specs.declared.tally.Tally.{Tally}
-use Rattle.judge_checks.specs.Tallies.{isFull}
+use Rattle.tally.specs.declared.Tally.{Tally}
+use Rattle.tally.specs.Tallies.{isFull}
 
 -- 13 to 15, then 22: a recording of so many samples, with its loop start and how many letters it drives
 unfoldable pub recordingChecks : ℕ → ℕ → ℕ → List Check

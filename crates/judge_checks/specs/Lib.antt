@@ -1,3 +1,2 @@
--- The checks of a judgement after those of its table, and the tally.
-pub mod Tallies
+-- The checks of a judgement after those of its table.
 pub mod Checks

@@ -2,15 +2,15 @@
 ghost use mathlib.Core.Path.{_≡_};
 ghost use Prim.Native.Nat.{_≤_};
 ghost use mathlib.Core.List.{_++_};
-ghost use Rattle.table.specs.Refusals.{first};
+ghost use Rattle.refusals.specs.Refusals.{first};
 ghost use Rattle.row_words.specs.Row.{rowWords};
 ghost use lib.ListN.{length};
 ghost use Rattle.table.specs.StepChecks.{isUndriven, letterChecks};
 ghost use Rattle.judge_checks.specs.Checks.{recordingChecks, scratchChecks, tallyChecks, rowChecks, judgeChecks};
-use crate::tally::Tally;
-use table::refusal::Outcome;
-use table::refusal::Refusal;
+use refusals::Outcome;
+use refusals::Refusal;
 use table::word;
+use tally::Tally;
 
 // 13 to 15, then 22.
 pub fn check_recording(samples: usize, start: usize, driven: usize) -> Outcome

@@ -1,3 +1,2 @@
-// What a judgement is refused for after its table, and the tally of judgements.
+// What a judgement is refused for after its table.
 pub mod checks;
-pub mod tally;

@@ -3,11 +3,11 @@ ghost use mathlib.Core.Path.{_≡_};
 ghost use mathlib.Core.List.{_++_};
 ghost use Prim.Native.Nat.{_+_, _<_, _/_, min};
 ghost use lib.ListN.{length, drop};
-ghost use Rattle.table.specs.Refusals as refusals;
+ghost use Rattle.refusals.specs.Refusals as refusals;
 ghost use Rattle.table.specs.StepChecks.{inputChecks};
 ghost use Rattle.listing.specs.Listing.{hexDigit, hexLine, wordAt, decoded};
-use table::refusal::Outcome;
-use table::refusal::Refusal;
+use refusals::Outcome;
+use refusals::Refusal;
 
 // 18: whether the bytes of an input, the first ones and the rest, are whole words.
 pub fn check_input(first: usize, rest: usize) -> Outcome
@@ -20,7 +20,7 @@ pub fn check_input(first: usize, rest: usize) -> Outcome
 }
 
 // A digit in hexadecimal, capitals.
-pub fn digit(d: u32) -> u8
+fn digit(d: u32) -> u8
     requires { ⌜ d < 16 ⌝ }
     ensures { λ r. ⌜ r ≡ hexDigit d ⌝ }
 {

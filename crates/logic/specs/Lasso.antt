@@ -1,18 +1,19 @@
 -- Recordings: a word over valuations, finite or looped for ever (an ultimately periodic word, a lasso).
 -- Document 01 calls a valuation a sample and a position a moment.
-use Prim.Native.Nat.{ℕ, zero, suc, _+_, _-_, _/_, _%_, _^_, _<_, _≤_}
+use Prim.Native.Nat.{ℕ, zero, suc, _+_, _-_, _%_, _<_, _≤_}
 use mathlib.Core.Bool.{Bool, cond}
 use mathlib.Core.List.{List}
 use lib.ListN.{length, getD}
-use lib.Dec.{ltb, eqb}
+use lib.Dec.{ltb}
+use Rattle.logic.specs.Bit.{bit}
 
 -- the valuation at each position, for ever
 abbrev pub Word : Type 0
 Word = ℕ → ℕ
 
--- whether letter n holds in a sample: bit n - 1, bit 0 the lowest; there is no letter 0
+-- whether letter n holds in a sample: bit n - 1; there is no letter 0
 unfoldable pub letterIn : ℕ → ℕ → Bool
-letterIn v n = eqb (v / 2 ^ (n - 1) % 2) 1
+letterIn v n = bit v (n - 1)
 
 -- at least one sample, a loop start below their number, and how many letters are driven: letters 1 to that one, at most 32.
 -- What is not driven is no reading: specs/Driven.antt says of which formulas a lasso may be asked.

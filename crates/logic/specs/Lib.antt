@@ -1,6 +1,7 @@
 -- The definitions of linear temporal logic that every promise rests on, a file a concept.
 pub mod Formula
 pub mod Letters
+pub mod Bit
 pub mod Lasso
 pub mod Driven
 pub mod Semantics

@@ -1,8 +1,3 @@
--- The laws of a plain form while its draft is filled, and what the step promises.
-pub mod Shapes
-pub mod Words
-pub mod Filling
-pub mod Forming
-pub mod Start
+-- What the plain-form step promises.
 pub mod Promise
 pub mod Step

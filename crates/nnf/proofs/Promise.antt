@@ -12,7 +12,7 @@ use Rattle.logic.specs.Lasso.{Lasso, word}
 use Rattle.logic.specs.Semantics.{Holds}
 use Rattle.logic.specs.NegationNormalForm.{plain}
 use Rattle.logic.proofs.Lasso.Duality as duality
-use Rattle.table.specs.declared.refusal.Outcome.the-variants.{Accepted}
+use Rattle.refusals.specs.declared.Outcome.the-variants.{Accepted}
 use Rattle.table.specs.Node.{Shape, none, constant, letter, unary, binary, kind, left, right, shape, leftField, rightField}
 use Rattle.table.specs.Table.{formulas, formulaOf, formulaBy, rule}
 use Rattle.table.specs.Checks.{isOperand, checked}
@@ -31,8 +31,8 @@ use Rattle.numbering.proofs.Built.{Built, Hereditary, tableOf-built, made-held,
 use Rattle.numbering.proofs.Used.{rule-tableOf}
 use Rattle.numbering.proofs.Accepted.{plain-small, accepted-tableOf}
 use Rattle.placing.proofs.Putting.{fits-true}
-use Rattle.nnf.specs.Forming.{formOf, slotOf}
-use Rattle.nnf.proofs.Filling.{slot-same, slot-bounds}
+use Rattle.plain_draft.specs.Forming.{formOf, slotOf}
+use Rattle.plain_draft.proofs.Filling.{slot-same, slot-bounds}
 use Rattle.logic.proofs.Pigeonhole.{pigeonhole}
 use Rattle.logic.proofs.Letters.{letters-plain}
 

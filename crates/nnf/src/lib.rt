@@ -1,20 +1,18 @@
 // The plain-form step: a written table goes in, and its plain form's table comes out at the front of the result.
 use draft::number;
 use placing::put;
+use refusals::Outcome;
+use refusals::Refusal;
 use table::answer::Answer;
 use table::limits::Limits;
-use table::refusal::Outcome;
-use table::refusal::Refusal;
 ghost use mathlib.Core.Path.{_≡_};
 ghost use Prim.Native.Nat.{_≤_, min};
 ghost use lib.ListN.{length};
 ghost use Rattle.table.specs.Limits.{desk, plainLimit};
 ghost use Rattle.table.specs.Frame.{plainStep, answerOf, resultOf};
-ghost use Rattle.nnf.specs.Written.{slots, Writable, Written};
-
-mod form;
-mod kinds;
-mod source;
+ghost use Rattle.table.specs.Steps.{plainTable};
+ghost use Rattle.placing.specs.Written.{Written};
+ghost use Rattle.nnf.specs.Writable.{slots, Writable};
 
 // Two slots for each of 64 written words, and the constants.
 const SLOTS: usize = 130;
@@ -55,10 +53,10 @@ fn lesser(a: usize, b: usize) -> usize
 // The plain form's table at the front of the result, and its length; 0 where it does not fit.
 fn write(table: &[u32], result: &mut [u32]) -> usize
     requires { ⌜ Writable (now table) (now result) ⌝ }
-    ensures { λ r. ⌜ Written (now (table .entry)) (now (result .entry)) (now (result .exit)) r ⌝ }
+    ensures { λ r. ⌜ Written (plainTable (now (table .entry))) (now (result .entry)) (now (result .exit)) r ⌝ }
 {
     let mut draft = [0u64; SLOTS];
-    let root = form::draft_rule(table, &mut draft);
+    let root = plain_draft::draft_rule(table, &mut draft);
     let mut numbers = [0u16; SLOTS];
     let mut stack = [0u16; SLOTS];
     let mut index = [0u16; 2 * SLOTS + 2];

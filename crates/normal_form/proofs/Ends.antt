@@ -2,27 +2,27 @@
 use Prim.Native.Nat.{ℕ, _+_, _*_, _≤_, _<_, min}
 use native.Mathlib.Omega.{arith}
 use mathlib.Core.Path.{_≡_, sym, ap, _∙_}
-use mathlib.Core.Bool.{true, false}
+use mathlib.Core.Bool.{true}
 use mathlib.Core.List.{List}
 use lib.ListN.{length, replicate}
-use Rattle.table.specs.declared.refusal.Refusal.{Refusal}
-use Rattle.table.specs.declared.refusal.Refusal.the-variants.{TooManyFixpoints, ResultTooShort}
-use Rattle.table.specs.declared.refusal.Outcome.{Outcome}
-use Rattle.table.specs.declared.refusal.Outcome.the-variants as outcome
+use Rattle.refusals.specs.declared.Refusal.{Refusal}
+use Rattle.refusals.specs.declared.Refusal.the-variants.{TooManyFixpoints, ResultTooShort}
+use Rattle.refusals.specs.declared.Outcome.{Outcome}
+use Rattle.refusals.specs.declared.Outcome.the-variants as outcome
 use Rattle.table.specs.declared.answer.Answer.{Answer}
 use Rattle.table.specs.declared.answer.Answer.the-variants.{Made, Refused}
 use Rattle.table.specs.declared.limits.Limits.{Limits}
-use Rattle.table.specs.Refusals.{first}
+use Rattle.refusals.specs.Refusals.{first}
 use Rattle.table.specs.Limits.{desk, plainLimit}
 use Rattle.table.specs.Checks.{tableChecks, checked}
 use Rattle.table.specs.StepChecks.{fixpointChecks}
 use Rattle.table.specs.Steps.{fixpoints}
 use Rattle.table.specs.Frame.{normalStep, answerOf, resultOf}
-use Rattle.table.proofs.First.{first-append-accepted, first-append-refused}
+use Rattle.refusals.proofs.First.{first-append-accepted, first-append-refused}
 use Rattle.table.proofs.Frame.{refused-answer, refused-result, too-long-answer, too-long-result, made-answer, made-result, normal-early}
 use Rattle.table.proofs.Accepted.{accepted-well-formed}
 use Rattle.fixpoints.specs.Positions.{Past}
-use Rattle.normal_form.specs.Forms.{Accepted, Formed}
+use Rattle.forms.specs.Forms.{Limited, Accepted, Formed}
 use Rattle.fixpoints.proofs.Positions.{fixpoints-few}
 
 -- the checks with the limits that the code asks for
@@ -57,11 +57,11 @@ module _ (l : Limits) (t result : List ℕ) where
     past-refused h = refused (TooManyFixpoints n) (both ∙ p .many h)
 
     module _ (z : n ≤ 0) where
-      pub all-passed : plainLimit l < 131 → l .fixpoints < 9 → Accepted t
-      all-passed h k =
+      pub all-passed : Limited l → Accepted t
+      all-passed h =
           let f = accepted-well-formed true (plainLimit l) t a in
           let few = fixpoints-few (l .fixpoints) f (p .few (omega arith)) in
-          record { limit = plainLimit l; accepted = a; short = h; few = omega (arith, few); drafted = omega (arith, few, f .few) }
+          record { limit = plainLimit l; accepted = a; short = h .positioned; few = omega (arith, few, h .few); drafted = omega (arith, few, f .few, h .drafted) }
 
       module _ {e : List ℕ} {r : ℕ} (f : Formed t result e r) where
         ok : first (normalStep l .checks t) ≡ outcome.Accepted

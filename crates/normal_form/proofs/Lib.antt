@@ -1,5 +1,2 @@
--- The laws of a normal form while it is built, and what the step promises.
-pub mod Growth
-pub mod ChoiceOrder
-pub mod Tiers
+-- How the normal-form step ends.
 pub mod Ends

@@ -1,17 +1,13 @@
 // The normal-form step: a plain table goes in, and its normal form's table comes out at the front of the result.
 use placing::put;
+use refusals::Outcome;
+use refusals::Refusal;
 use table::answer::Answer;
 use table::limits::Limits;
-use table::refusal::Outcome;
-use table::refusal::Refusal;
 ghost use mathlib.Core.Path.{_≡_};
 ghost use lib.ListN.{length};
 ghost use Rattle.table.specs.Limits.{desk};
 ghost use Rattle.table.specs.Frame.{normalStep, answerOf, resultOf};
-
-mod choices;
-mod forms;
-mod part;
 
 pub fn normalise(table: &[u32], result: &mut [u32]) -> Answer
     ensures { λ r. ⌜ r ≡ answerOf (normalStep desk) (now (table .entry)) (length (now (result .entry))) ⌝ }

@@ -11,7 +11,7 @@ use Rattle.logic.specs.Formula.{Formula, Unary, Binary, const, lit, un, bin, ne
 use Rattle.logic.specs.NegationNormalForm.{isPlain, plainUnary, plainBinary}
 use Rattle.logic.proofs.Tests.{T-and}
 use Rattle.table.specs.Node.{Shape, constant, letter, unary, binary, pack, shape, leftField, rightField, unaryKind, binaryKind}
-use Rattle.table.specs.declared.refusal.Outcome.the-variants.{Accepted}
+use Rattle.refusals.specs.declared.Outcome.the-variants.{Accepted}
 use Rattle.table.specs.Checks.{isBlank, isOperand, isProposition, occurs, checked}
 use Rattle.table.specs.Numbering.{tableOf}
 use Rattle.table.proofs.Fields.{kind-pack, left-pack, right-pack}

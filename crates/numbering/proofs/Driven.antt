@@ -9,8 +9,8 @@ use lib.ListN.{length, getD}
 use Rattle.logic.specs.Letters.{Letters}
 use Rattle.logic.specs.Driven.{Driven}
 use Rattle.logic.proofs.Letters.{letters-sub}
-use Rattle.table.specs.declared.refusal.Outcome.the-variants.{Accepted}
-use Rattle.table.specs.Refusals.{first}
+use Rattle.refusals.specs.declared.Outcome.the-variants.{Accepted}
+use Rattle.refusals.specs.Refusals.{first}
 use Rattle.table.specs.Node.{kind, right, shape}
 use Rattle.table.specs.Table.{formulaOf, rule}
 use Rattle.table.specs.StepChecks.{letterChecks}

@@ -10,14 +10,14 @@ use lib.ListN.{length, take, drop}
 use borrow.Author.Tests.{leb-true}
 use Rattle.logic.specs.Letters.{Letters}
 use Rattle.logic.specs.Driven.{Driven}
-use Rattle.table.specs.declared.refusal.Refusal.{Refusal}
-use Rattle.table.specs.declared.refusal.Refusal.the-variants.{ResultTooShort}
-use Rattle.table.specs.declared.refusal.Outcome.{Outcome}
-use Rattle.table.specs.declared.refusal.Outcome.the-variants as outcome
+use Rattle.refusals.specs.declared.Refusal.{Refusal}
+use Rattle.refusals.specs.declared.Refusal.the-variants.{ResultTooShort}
+use Rattle.refusals.specs.declared.Outcome.{Outcome}
+use Rattle.refusals.specs.declared.Outcome.the-variants as outcome
 use Rattle.table.specs.declared.answer.Answer.{Answer}
 use Rattle.table.specs.declared.answer.Answer.the-variants.{Made, Refused}
 use Rattle.table.specs.declared.limits.Limits.{Limits}
-use Rattle.table.specs.Refusals.{first, numberOf}
+use Rattle.refusals.specs.Refusals.{first, numberOf}
 use Rattle.table.specs.Limits.{plainLimit, mostWords}
 use Rattle.table.specs.Checks.{tableChecks, checked}
 use Rattle.table.specs.Numbering.{room, fits}
@@ -25,7 +25,7 @@ use Rattle.table.specs.StepChecks.{fixpointChecks}
 use Rattle.table.specs.Table.{rule}
 use Rattle.table.specs.Steps.{plainTable, normalTable}
 use Rattle.table.specs.Frame.{plainStep, normalStep, answerOf, resultOf, answerNumber}
-use Rattle.table.proofs.First.{first-append-accepted, first-append-refused, first-append-both}
+use Rattle.refusals.proofs.First.{first-append-accepted, first-append-refused, first-append-both}
 use Rattle.table.proofs.Accepted.{accepted-well-formed}
 use Rattle.numbering.proofs.Driven.{driven-exactly}
 use Rattle.table.proofs.Frame.{Answered, answered, refused-for-length, refused-answer, too-long-answer, made-answer, plain-early, normal-early}

@@ -10,12 +10,12 @@ use Rattle.logic.specs.Lasso.{Lasso, word}
 use Rattle.logic.specs.Driven.{Drives}
 use Rattle.logic.specs.Semantics.{Holds}
 use Rattle.logic.specs.Hierarchy.{Δ₂}
-use Rattle.table.specs.declared.refusal.Refusal.{Refusal}
-use Rattle.table.specs.declared.refusal.Outcome.the-variants as outcome
+use Rattle.refusals.specs.declared.Refusal.{Refusal}
+use Rattle.refusals.specs.declared.Outcome.the-variants as outcome
 use Rattle.table.specs.declared.answer.Answer.{Answer}
 use Rattle.table.specs.declared.answer.Answer.the-variants.{Made, Refused}
 use Rattle.table.specs.declared.limits.Limits.{Limits}
-use Rattle.table.specs.Refusals.{first, numberOf}
+use Rattle.refusals.specs.Refusals.{first, numberOf}
 use Rattle.table.specs.Checks.{tableChecks, checked}
 use Rattle.table.specs.Limits.{mostWords}
 use Rattle.table.specs.Numbering.{fits}

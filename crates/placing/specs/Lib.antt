@@ -1,2 +1,3 @@
--- A table that grows, with its index.
+-- A table that grows, with its index, and one that is written.
 pub mod State
+pub mod Written

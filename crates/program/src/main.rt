@@ -1,16 +1,15 @@
 // Prints the normal form of a rule that is read from standard input: a written table, its words least byte first, or after the argument
 // `text` a text. The form is the count in decimal, then each word on its line in eight hexadecimal digits, capitals, or after the
 // argument `as-text` a text. A refusal prints one line: refused, the number, at, the place.
+use refusals::Outcome;
+use refusals::Refusal;
 use table::answer::Answer;
-use table::refusal;
-use table::refusal::Outcome;
-use table::refusal::Refusal;
 
 mod argument;
 mod print;
 
 fn refused(r: Refusal) {
-    let report = refusal::report_of(r);
+    let report = refusals::report_of(r);
     print::refused(report.0, report.1);
 }
 
@@ -70,7 +69,7 @@ fn table(as_text: bool) {
 
 // Why a text is refused; where it departs from the grammar, the text itself too.
 fn refused_text(r: Refusal, bytes: &[u8]) {
-    let report = refusal::report_of(r);
+    let report = refusals::report_of(r);
     print::refused(report.0, report.1);
     if report.0 == 19 {
         print::departure(bytes, report.1);
@@ -97,7 +96,7 @@ fn text_input(as_text: bool) {
     rest();
     let whole: &[u8] = &bytes;
     if n <= whole.len() {
-        let m = typed::without_line_end(&whole[0..n]);
+        let m = printing::without_line_end(&whole[0..n]);
         if m <= whole.len() {
             answer_text(&whole[0..m], as_text);
         }

@@ -26,7 +26,7 @@ fn words(form: &[u32], n: usize) {
 // One more piece of the text, and whether there is more: how high the stack is.
 fn piece(form: &[u32], stack: &mut [u32], depth: &mut usize) -> bool {
     let mut buffer = io::large_buffer();
-    let p = typed::fill(form, stack, *depth, &mut buffer);
+    let p = printing::fill(form, stack, *depth, &mut buffer);
     let n = p.used;
     let all: &[u8] = &buffer;
     if n <= all.len() {
@@ -47,7 +47,7 @@ fn pieces(form: &[u32], stack: &mut [u32]) {
 
 fn text(form: &[u32], n: usize) {
     let mut stack = [0u32; 4096];
-    stack[0] = typed::whole(n);
+    stack[0] = printing::whole(n);
     pieces(form, &mut stack);
     io::write_all(1, b"\n");
 }
@@ -95,7 +95,7 @@ pub fn departure(bytes: &[u8], place: usize) {
     let spaces = [b' '; 1024];
     let n = bytes.len();
     let blank: &[u8] = &spaces;
-    typed::show(bytes, &mut shown);
+    printing::show(bytes, &mut shown);
     let line: &[u8] = &shown;
     if n <= line.len() {
         io::write_all(2, &line[0..n]);

@@ -11,11 +11,11 @@ use native.Mathlib.Omega.{arith}
 use native.Mathlib.Numerals.{add-one}
 use borrow.Author.Tests.{ne-eqb, lt-ltb, le-ltb}
 use Rattle.logic.proofs.Numbers.{lt-or-le}
-use Rattle.table.specs.declared.refusal.Refusal.the-variants.{NoWord, TooManyWords, Repeated}
-use Rattle.table.specs.declared.refusal.Refusal.{Refusal}
-use Rattle.table.specs.declared.refusal.Outcome.{Outcome}
-use Rattle.table.specs.declared.refusal.Outcome.the-variants.{Accepted, Refused}
-use Rattle.table.specs.Refusals.{_⇒_, first, decideBy}
+use Rattle.refusals.specs.declared.Refusal.the-variants.{NoWord, TooManyWords, Repeated}
+use Rattle.refusals.specs.declared.Refusal.{Refusal}
+use Rattle.refusals.specs.declared.Outcome.{Outcome}
+use Rattle.refusals.specs.declared.Outcome.the-variants.{Accepted, Refused}
+use Rattle.refusals.specs.Refusals.{_⇒_, first, decideBy}
 use Rattle.table.specs.Checks.{occurs, wordChecks, wordsChecks, useChecks, tableChecks, checked}
 use Rattle.fields.specs.Layout.{andThen}
 use Rattle.fields.proofs.First.{first-append}

@@ -8,8 +8,8 @@ use lib.ListN.{length, getD, set, replicate, length-set, length-replicate, getD-
 use lib.Seq.{getD-set-same, getD-set-other}
 use lib.Dec.{eqb}
 use borrow.Author.Tests.{eqb-true, eqb-false}
-use Rattle.table.specs.declared.refusal.Refusal.the-variants.{Unused}
-use Rattle.table.specs.Refusals.{first, decideBy}
+use Rattle.refusals.specs.declared.Refusal.the-variants.{Unused}
+use Rattle.refusals.specs.Refusals.{first, decideBy}
 use Rattle.table.specs.Node.{Shape, none, constant, letter, unary, binary, kind, left, right, shape}
 use Rattle.table.specs.Checks.{uses, used, useChecks}
 use Rattle.fields.specs.declared.layout.Layout.{Layout}

@@ -3,8 +3,8 @@ mod rooms;
 mod uses;
 mod words;
 
-use table::refusal::Outcome;
-use table::refusal::Refusal;
+use refusals::Outcome;
+use refusals::Refusal;
 ghost use mathlib.Core.Path.{_≡_};
 ghost use Prim.Native.Nat.{min};
 ghost use Rattle.table.specs.Checks.{checked};

@@ -1,7 +1,7 @@
 // The words of a table and their uses, with an index and marks of the size that the table can need: short tables pay for no more.
 use crate::uses;
 use crate::words;
-use table::refusal::Outcome;
+use refusals::Outcome;
 ghost use mathlib.Core.Path.{_≡_};
 ghost use mathlib.Core.List.{[]};
 ghost use Prim.Native.Nat.{_≤_};

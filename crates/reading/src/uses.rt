@@ -1,10 +1,10 @@
 // Whether every word but the last is an operand, by the marks.
-use table::refusal::Outcome;
-use table::refusal::Refusal;
+use refusals::Outcome;
+use refusals::Refusal;
 ghost use mathlib.Core.Path.{_≡_};
 ghost use Prim.Native.Nat.{_-_, _≤_};
 ghost use lib.ListN.{length};
-ghost use Rattle.table.specs.Refusals.{first};
+ghost use Rattle.refusals.specs.Refusals.{first};
 ghost use Rattle.table.specs.Checks.{useChecks};
 ghost use Rattle.reading.specs.Marks.{Marked};
 

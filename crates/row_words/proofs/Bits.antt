@@ -1,6 +1,6 @@
 -- The bits of a number: what the word operations do to each, and that they make up the number.
 -- `packed` is the way from bits to numbers: a number below 2 ^ n whose bits are a sequence's values is those values packed.
-use mathlib.Core.Path.{_≡_, refl, sym, ap, ap₂, _∙_}
+use mathlib.Core.Path.{_≡_, refl, sym, ap, ap₂, subst, _∙_}
 use mathlib.Core.Bool.{Bool, true, false, not, _&&_, _||_, xor}
 use Prim.Native.Nat.{ℕ, zero, suc, _+_, _-_, _*_, _/_, _%_, _^_, _≤_, _<_, min, max}
 use native.Mathlib.Nat.{div-one, div-eq-of-lt, pow-suc, mod-lt, div-add-mod', zero-lt-suc, add-suc, suc-add, add-zero, zero-add, le-of-suc-le-suc, lt-of-lt-of-le, lt-of-le-of-lt}
@@ -10,9 +10,10 @@ use borrow.Author.Tests.{eq-eqb, ne-eqb, lt-ltb, le-ltb, ltb-true, ltb-false}
 use lib.Dec.{eqb, ltb}
 use lib.Arith.{lt-one, digits-div, digits-mod}
 use lib.Pow.{pow-pos, pow-mono, shr-shr, shr-lt, low, ones-lt}
-use lib.Bits.{bitAnd, bitOr, bitXor, differ, and-step, or-step, xor-step, and-shr, or-shr, xor-shr, and-lt, or-lt, xor-lt}
+use lib.Bits.{bitAnd, bitOr, bitXor, differ, and-step, or-step, xor-step, and-shr, or-shr, xor-shr, and-lt, or-lt, xor-lt, and-le-l, and-le-r, or-add-and}
 use Rattle.logic.specs.Truth.{Sequence}
-use Rattle.row_words.specs.Row.{bit, digit, packBits}
+use Rattle.logic.specs.Bit.{bit}
+use Rattle.row_words.specs.Row.{digit, packBits}
 
 two-pos : zero < 2
 two-pos = zero-lt-suc 1
@@ -65,6 +66,13 @@ module _ (op f : ℕ → ℕ → ℕ) (t : Bool → Bool → Bool)
       ap (λ (n : ℕ). eqb (n % 2) 1) (shr x y k) ∙ ap (λ (n : ℕ). eqb n 1) (lowest (x / 2 ^ k) (y / 2 ^ k))
       ∙ digit-one (t (bit x k) (bit y k))
 
+  -- a digit at the low end of each
+  op-digits : (x y : ℕ) (a b : Bool) → op (x * 2 + digit a) (y * 2 + digit b) ≡ op x y * 2 + digit (t a b)
+  op-digits x y a b =
+      step (x * 2 + digit a) (y * 2 + digit b)
+      ∙ ap₂ (λ (u v : ℕ). u * 2 + v) (ap₂ op (digits-div x (digit-lt a)) (digits-div y (digit-lt b)))
+      (ap₂ f (digits-mod x (digit-lt a)) (digits-mod y (digit-lt b)) ∙ table a b)
+
 and-table : (p q : Bool) → min (digit p) (digit q) ≡ digit (p && q)
 and-table true true = refl
 and-table true false = refl
@@ -92,6 +100,12 @@ bit-or = bit-op bitOr max _||_ or-shr or-step or-table
 
 pub bit-xor : (x y k : ℕ) → bit (bitXor x y) k ≡ xor (bit x k) (bit y k)
 bit-xor = bit-op bitXor differ xor xor-shr xor-step xor-table
+
+pub and-digits : (x y : ℕ) (a b : Bool) → bitAnd (x * 2 + digit a) (y * 2 + digit b) ≡ bitAnd x y * 2 + digit (a && b)
+and-digits = op-digits bitAnd min _&&_ and-shr and-step and-table
+
+pub xor-digits : (x y : ℕ) (a b : Bool) → bitXor (x * 2 + digit a) (y * 2 + digit b) ≡ bitXor x y * 2 + digit (xor a b)
+xor-digits = op-digits bitXor differ xor xor-shr xor-step xor-table
 
 -- ---- packed sequences
 
@@ -136,6 +150,13 @@ packed f i (suc n) x h b =
 -- what is packed depends on the packed positions alone
 pub pack-ext : (f g : Sequence) (i j n : ℕ) → ((k : ℕ) → k < n → f (i + k) ≡ g (j + k)) → packBits f i n ≡ packBits g j n
 pack-ext f g i j n e = packed g j n (packBits f i n) (pack-lt f i n) (λ k l. bit-pack f i n k l ∙ e k l)
+
+-- the positions from the k-th on
+pub pack-drop : (f : Sequence) (i n k : ℕ) → k ≤ n → packBits f i n / 2 ^ k ≡ packBits f (i + k) (n - k)
+pack-drop f i n k h =
+    let e : n ≡ (n - k) + k = omega arith in
+    packed f (i + k) (n - k) (packBits f i n / 2 ^ k) (shr-lt (n - k) k (subst (λ (m : ℕ). packBits f i n < 2 ^ m) e (pack-lt f i n)))
+    (λ j l. bit-shr (packBits f i n) k j ∙ bit-pack f i n (k + j) (omega arith) ∙ ap f (omega arith))
 
 -- ---- the word operations on packed sequences
 
@@ -214,3 +235,24 @@ pack-shift f i n =
     go k false e =
         let l : n ≤ suc k = ltb-false (suc k) n e in
         bit-above (packBits f i n) n (suc k) (pack-lt f i n) l ∙ ap (λ (b : Bool). b && f (suc (i + k))) (sym (le-ltb (suc (i + k)) (i + n) (omega arith)))
+
+-- ---- tests over words joined by or
+
+pub or-none : (x y : ℕ) → bitOr x y ≡ 0 → (x ≡ 0) × (y ≡ 0)
+or-none x y e = let s = or-add-and x y in (omega (arith, and-le-r x y), omega (arith, and-le-l x y))
+
+-- words that differ nowhere are the same
+pub xor-none : (x y : ℕ) → bitXor x y ≡ 0 → x ≡ y
+unfolding xor
+xor-none x y e =
+    packed-all (bit y) 0 (x + y) x (λ k l. same k ∙ ap (bit y) (sym (zero-add k))) (λ k l. bit-above x (x + y) k (lt-of-lt-of-le (lt-pow x) (pow-mono (omega arith))) l)
+    ∙ sym (packed-all (bit y) 0 (x + y) y (λ k l. ap (bit y) (sym (zero-add k))) (λ k l. bit-above y (x + y) k (lt-of-lt-of-le (lt-pow y) (pow-mono (omega arith))) l))
+  where
+    agree : (a b : Bool) → xor a b ≡ false → a ≡ b
+    agree true true h = refl
+    agree true false h = h
+    agree false true h = sym h
+    agree false false h = refl
+
+    same : (k : ℕ) → bit x k ≡ bit y k
+    same k = agree (bit x k) (bit y k) (sym (bit-xor x y k) ∙ ap (λ (z : ℕ). bit z k) e ∙ bit-above 0 0 k (omega arith) (omega arith))

@@ -7,7 +7,8 @@ use native.Mathlib.Omega.{arith}
 use lib.Bits.{bitAnd, bitOr}
 use Rattle.logic.specs.Truth.{Sequence, sweep}
 use Rattle.logic.proofs.Lasso.Sequence.{sweep-append}
-use Rattle.row_words.specs.Row.{bit, nowhere}
+use Rattle.logic.specs.Bit.{bit}
+use Rattle.row_words.specs.Row.{nowhere}
 use Rattle.row_words.proofs.Bits.{bit-and, bit-or, bit-shr}
 
 -- what holds k positions after i + 1 holds k + 1 positions after i
@@ -56,25 +57,13 @@ module _ (g q : Sequence) where
       (sweep-none (suc i) n (λ k l. later g i k ∙ e (suc k) (omega arith)))
       ∙ and-false (q i)
 
--- the keep alone: all the way, cut in two, and not all the way
+-- the keep alone, cut in two
 module _ (q : Sequence) where
   pub keep-append : (i m n : ℕ) → sweep nowhere q true i (m + n) ≡ sweep nowhere q true i m && sweep nowhere q true (i + m) n
   keep-append i m n =
       sweep-append nowhere q true i m n
       ∙ sweep-carry nowhere q (sweep nowhere q true (i + m) n) i m
       ∙ ap (λ (b : Bool). b || (sweep nowhere q true i m && sweep nowhere q true (i + m) n)) (sweep-none nowhere q i m (λ k l. refl))
-
-  pub keep-all : (i n : ℕ) → ((k : ℕ) → k < n → q (i + k) ≡ true) → sweep nowhere q true i n ≡ true
-  unfolding sweep
-  keep-all i zero e = refl
-  keep-all i (suc n) e =
-      ap₂ _&&_ (ap q (sym (add-zero i)) ∙ e 0 (omega arith)) (keep-all (suc i) n (λ k l. later q i k ∙ e (suc k) (omega arith)))
-
-  pub keep-fails : (i n k : ℕ) → k < n → q (i + k) ≡ false → sweep nowhere q true i n ≡ false
-  unfolding sweep
-  keep-fails i zero k l e = absurd (omega arith)
-  keep-fails i (suc n) zero l e = ap (λ (b : Bool). b && sweep nowhere q true (suc i) n) (ap q (sym (add-zero i)) ∙ e)
-  keep-fails i (suc n) (suc k) l e = ap (λ (b : Bool). q i && b) (keep-fails (suc i) n k (omega arith) (later q i k ∙ e)) ∙ and-false (q i)
 
 -- What the words x and y hold of G and P after doublings up to width d: at bit k of x the sweep over the d positions from k on, with nothing
 -- carried in, and at bit k of y whether P holds throughout them.

@@ -1,22 +1,22 @@
 -- The laws of one word of a row, an operation each.
-use mathlib.Core.Path.{_≡_, refl, sym, ap, ap₂, _∙_}
-use mathlib.Core.Bool.{Bool, true, false, not, cond, _&&_, _||_, and-true, Bool·beq, Bool·not-not}
+use mathlib.Core.Path.{_≡_, refl, sym, ap, ap₂, subst, _∙_}
+use mathlib.Core.Bool.{Bool, true, false, not, xor, cond, _&&_, _||_, and-true, and-false, Bool·beq}
 use Prim.Native.Nat.{ℕ, zero, suc, _+_, _-_, _*_, _/_, _%_, _^_, _≤_, _<_}
-use native.Mathlib.Nat.{add-assoc, add-sub-of-le, one-mul, mod-lt, lt-of-lt-of-le, lt-of-le-of-lt, not-le-of-lt, pow-suc}
-use native.Mathlib.Decide.{decLt}
+use native.Mathlib.Nat.{add-assoc, add-sub-of-le, one-mul, zero-mul, mod-lt, mod-eq-of-lt, lt-of-lt-of-le, lt-of-le-of-lt, pow-suc}
 use native.Mathlib.Omega.{arith}
-use borrow.Author.Tests.{eq-eqb, ne-eqb, lt-ltb, le-ltb, ltb-true, ltb-false}
+use borrow.Author.Tests.{eq-eqb, ne-eqb, eqb-true, eqb-false, ltb-true, ltb-false}
+use mir.Val.{boolByte}
 use lib.Dec.{eqb, ltb}
-use lib.Pow.{high, ones-split, ones-lt, shl-exact, pow-mono}
-use lib.Bits.{bitOr, bitXor}
-use lib.Count.{leadingZeros, leading-top}
+use lib.Pow.{high, ones-split, ones-lt, shl-exact, pow-mono, pow-pos}
+use lib.Bits.{bitAnd, bitOr, bitXor, and-zero-l, and-zero-r, or-zero-r, xor-self, and-le-l, and-mod, xor-mod}
 use Rattle.logic.specs.Lasso.{letterIn}
 use Rattle.logic.specs.Truth.{Sequence, sweep}
 use Rattle.logic.proofs.Lasso.Sequence.{sweep-append}
-use Rattle.row_words.specs.Row.{bit, digit, packBits, nowhere}
+use Rattle.logic.specs.Bit.{bit}
+use Rattle.row_words.specs.Row.{digit, packBits, nowhere}
 use Rattle.row_words.specs.Writing.{literal}
-use Rattle.row_words.proofs.Bits.{bit-pack, bit-above, pack-lt, pack-ext, pack-or, pack-not, pack-ones, pack-top, pack-shift, packed, packed-all}
-use Rattle.row_words.proofs.Sweep.{sweep-ext, sweep-none, sweep-carry, keep-all, keep-fails}
+use Rattle.row_words.proofs.Bits.{bit-pack, bit-above, and-digits, xor-digits, pack-lt, pack-ext, pack-and, pack-or, pack-not, pack-zeros, pack-top, pack-shift, packed-all}
+use Rattle.row_words.proofs.Sweep.{sweep-ext, sweep-none, sweep-carry}
 
 -- n ones are 64 of them, shifted
 pub shifted-ones : (n : ℕ) → n ≤ 64 → 18446744073709551615 / 2 ^ (64 - n) ≡ 2 ^ n - 1
@@ -60,15 +60,13 @@ pack-next-carry A i n =
     (λ k l. ap (λ (b : Bool). (ltb (suc (i + k)) (i + suc n) && A (suc (i + k))) || b) (sym (and-true (eqb (suc (i + k)) (i + suc n))))
     ∙ shift-value (A (suc (i + k))) true (ltb (suc (i + k)) (i + suc n)) (suc (i + k)) (i + suc n) refl (omega arith))
 
--- a shift to the right, and the carry, or nothing, at the last position
-pub next-law : (A : Sequence) (i n x : ℕ) (carry : Bool) → carry ≡ false → x ≡ packBits A i n
-    → x / 2 ≡ packBits (λ k. cond (ltb (suc k) (i + n)) (A (suc k)) carry) i n
-next-law A i n x carry e ex = rw (e, ex) (pack-next A i n)
-
-pub next-carry-law : (A : Sequence) (i n x : ℕ) (carry : Bool) → carry ≡ true → 1 ≤ n → n ≤ 64 → x ≡ packBits A i n
-    → bitOr (x / 2) (1 * 2 ^ (n - 1) % 2 ^ 64) ≡ packBits (λ k. cond (ltb (suc k) (i + n)) (A (suc k)) carry) i n
-next-carry-law A i zero x carry e l h ex = absurd (omega arith)
-next-carry-law A i (suc n) x carry e l h ex = rw (e, ex, last-bit n h) (pack-next-carry A i n)
+-- a shift to the right, and the digit d at the last position
+pub next-law : (A : Sequence) (i n x d : ℕ) → d < 2 → 1 ≤ n → n ≤ 64 → x ≡ packBits A i n
+    → bitOr (x / 2) (d * 2 ^ (n - 1) % 2 ^ 64) ≡ packBits (λ k. cond (ltb (suc k) (i + n)) (A (suc k)) (eqb d 1)) i n
+next-law A i zero x d h l m e = absurd (omega arith)
+next-law A i (suc n) x zero h l m e = rw e (ap (bitOr (packBits A i (suc n) / 2)) (ap (λ (y : ℕ). y % 2 ^ 64) (zero-mul (2 ^ (suc n - 1)))) ∙ or-zero-r _ ∙ pack-next A i (suc n))
+next-law A i (suc n) x (suc zero) h l m e = rw (e, last-bit n m) (pack-next-carry A i n)
+next-law A i (suc n) x (suc (suc d)) h l m e = absurd (omega arith)
 
 -- ---- the closing
 
@@ -100,90 +98,141 @@ module _ (G P : Sequence) (i n g p r : ℕ) (few : n ≤ 64) (eg : g ≡ packBit
       ends : (k : ℕ) → k < n → n - k ≡ i + n - (i + k)
       ends k l = omega arith
 
--- ---- the ones that lead down from the last position
+-- ---- what a sweep comes to at its first position
 
--- bit k of m ones
-ones-bit : (m k : ℕ) → bit (2 ^ m - 1) k ≡ ltb k m
-ones-bit m k = go (ltb k m) refl
+doubled : (z : ℕ) → eqb (z * 2 + 0) 0 ≡ eqb z 0
+doubled zero = refl
+doubled (suc z) = ne-eqb (suc z * 2 + 0) 0 (λ e. omega arith) ∙ sym (ne-eqb (suc z) 0 (λ e. omega arith))
+
+-- the lowest bits of p, up to the first one that fails, are those that change when 1 is added: the goal is reached if one of them has it
+reached : (G P : Sequence) (i n : ℕ) → not (eqb (bitAnd (packBits G i n) (bitXor (packBits P i n) (packBits P i n + 1))) 0) ≡ sweep G P false i n
+unfolding packBits sweep xor
+reached G P i zero = ap (λ (x : ℕ). not (eqb x 0)) (and-zero-l (bitXor 0 (0 + 1)))
+reached G P i (suc n) =
+    ap (λ (x : ℕ). not (eqb (bitAnd (g * 2 + digit (G i)) x) 0)) (mask (P i))
+    ∙ ap (λ (x : ℕ). not (eqb x 0)) (and-digits g (cond (P i) (bitXor p (p + 1)) 0) (G i) true)
+    ∙ value (G i) (P i) (reached G P (suc i) n)
   where
-    go : (t : Bool) → ltb k m ≡ t → bit (2 ^ m - 1) k ≡ t
-    go true e = ap (λ (x : ℕ). bit x k) (pack-ones 0 m) ∙ bit-pack (λ j. true) 0 m k (ltb-true k m e)
-    go false e = bit-above (2 ^ m - 1) m k (ones-lt m) (ltb-false k m e)
+    g : ℕ
+    g = packBits G (suc i) n
 
-module _ (P : Sequence) (i n t : ℕ) (et : t ≡ packBits (λ k. not (P k)) i n) where
-  -- a bit of the denial
-  kept : (k : ℕ) (b : Bool) → k < n → bit t k ≡ b → P (i + k) ≡ not b
-  kept k b l e =
-      sym (Bool·not-not (P (i + k))) ∙ ap not (sym (bit-pack (λ j. not (P j)) i n k l) ∙ ap (λ (x : ℕ). bit x k) (sym et) ∙ e)
+    p : ℕ
+    p = packBits P (suc i) n
 
-  -- nothing is denied
-  pub lead-all : t ≡ 0 → 2 ^ n - 1 ≡ packBits (λ k. sweep nowhere P true k (i + n - k)) i n
-  lead-all z =
-      pack-ones i n
-      ∙ pack-ext (λ k. true) _ i i n
-      (λ k l. sym (keep-all P (i + k) (i + n - (i + k))
-      (λ j m. ap P (add-assoc i k j) ∙ kept (k + j) false (omega arith) (ap (λ (x : ℕ). bit x (k + j)) z ∙ bit-above 0 0 (k + j) (omega arith) (omega arith)))))
+    mask : (b : Bool) → bitXor (p * 2 + digit b) (p * 2 + digit b + 1) ≡ cond b (bitXor p (p + 1)) 0 * 2 + digit true
+    mask true = let e : p * 2 + 1 + 1 ≡ (p + 1) * 2 + 0 = omega arith in ap (bitXor (p * 2 + 1)) e ∙ xor-digits p (p + 1) true false
+    mask false =
+        let e : p * 2 + 0 + 1 ≡ p * 2 + 1 = omega arith in
+        ap (bitXor (p * 2 + 0)) e ∙ xor-digits p p false true ∙ ap (λ (x : ℕ). x * 2 + 1) (xor-self p)
 
-  -- the highest bit of the denial is bit j: from there down the keep fails
-  pub lead-from : (j : ℕ) → 2 ^ j ≤ t → t < 2 ^ suc j → bitXor (2 ^ n - 1) (2 ^ suc j - 1) ≡ packBits (λ k. sweep nowhere P true k (i + n - k)) i n
-  unfolding bit
-  lead-from j low high' =
-      ap (bitXor (2 ^ n - 1)) (packed (λ k. ltb k (i + suc j)) i n (2 ^ suc j - 1) (lt-of-lt-of-le (ones-lt (suc j)) (pow-mono inside)) (λ k l. ones-bit (suc j) k ∙ moved k))
-      ∙ pack-not (λ k. ltb k (i + suc j)) i n
-      ∙ pack-ext (λ k. not (ltb k (i + suc j))) _ i i n (λ k l. here k l (ltb (i + k) (i + suc j)) refl)
-    where
-      small : t < 2 ^ n
-      small = rw et (pack-lt (λ k. not (P k)) i n)
+    value : (a b : Bool) → not (eqb (bitAnd g (bitXor p (p + 1))) 0) ≡ sweep G P false (suc i) n
+        → not (eqb (bitAnd g (cond b (bitXor p (p + 1)) 0) * 2 + digit (a && true)) 0) ≡ a || (b && sweep G P false (suc i) n)
+    value true b ih = ap not (ne-eqb (bitAnd g (cond b (bitXor p (p + 1)) 0) * 2 + 1) 0 (λ e. omega arith))
+    value false true ih = ap not (doubled (bitAnd g (bitXor p (p + 1)))) ∙ ih
+    value false false ih = ap (λ (x : ℕ). not (eqb (x * 2 + 0) 0)) (and-zero-r g)
 
-      inside : j < n
-      inside = elim (decLt j n) [ yes h ↦ h | no h ↦ absurd (not-le-of-lt (lt-of-le-of-lt low small) (pow-mono (omega arith))) ]
+-- below 2 ^ 64 it does not matter that 1 is added modulo 2 ^ 64
+wrapped : (g p q : ℕ) → g < 2 ^ 64 → bitAnd g (bitXor p (q % 2 ^ 64)) ≡ bitAnd g (bitXor p q)
+wrapped g p q h =
+    low-bits (bitXor p (q % 2 ^ 64))
+    ∙ ap (bitAnd g) (xor-mod p (q % 2 ^ 64) 64 ∙ ap (bitXor (p % 2 ^ 64)) (mod-mod q 64) ∙ sym (xor-mod p q 64))
+    ∙ sym (low-bits (bitXor p q))
+  where
+    mod-mod : (x k : ℕ) → x % 2 ^ k % 2 ^ k ≡ x % 2 ^ k
+    mod-mod x k = mod-eq-of-lt (mod-lt x (pow-pos k))
 
-      moved : (k : ℕ) → ltb k (suc j) ≡ ltb (i + k) (i + suc j)
-      moved k = elim (decLt k (suc j)) [
-        | yes h ↦ lt-ltb k (suc j) h ∙ sym (lt-ltb (i + k) (i + suc j) (omega arith))
-        | no h ↦ le-ltb k (suc j) (omega arith) ∙ sym (le-ltb (i + k) (i + suc j) (omega arith))
-      ]
+    low-bits : (x : ℕ) → bitAnd g x ≡ bitAnd g (x % 2 ^ 64)
+    low-bits x =
+        sym (mod-eq-of-lt (lt-of-le-of-lt (and-le-l g x) h)) ∙ and-mod g x 64
+        ∙ ap (λ (y : ℕ). bitAnd y (x % 2 ^ 64)) (mod-eq-of-lt h)
 
-      top : bit t j ≡ true
-      top =
-          let e : t ≡ 1 * 2 ^ j + (t - 2 ^ j) = omega arith in
-          ap (λ (x : ℕ). eqb (x / 2 ^ j % 2) 1) e
-          ∙ ap (λ (x : ℕ). eqb (x % 2) 1) (high 1 j (omega (arith, pow-suc 2 j)))
+-- the keep holds all the way where all n bits are set
+kept : (P : Sequence) (i n : ℕ) → eqb (packBits P i n) (2 ^ n - 1) ≡ sweep nowhere P true i n
+unfolding packBits sweep
+kept P i zero = refl
+kept P i (suc n) =
+    let e : 2 ^ suc n - 1 ≡ (2 ^ n - 1) * 2 + 1 = omega (arith, pow-suc 2 n, pow-pos n) in
+    ap (eqb (packBits P (suc i) n * 2 + digit (P i))) e ∙ odd (P i) (packBits P (suc i) n) (2 ^ n - 1) ∙ ap (λ (b : Bool). P i && b) (kept P (suc i) n)
+  where
+    odd : (b : Bool) (x y : ℕ) → eqb (x * 2 + digit b) (y * 2 + 1) ≡ b && eqb x y
+    odd true x y = go (eqb x y) refl
+      where
+        go : (t : Bool) → eqb x y ≡ t → eqb (x * 2 + 1) (y * 2 + 1) ≡ eqb x y
+        go true h = let e : x ≡ y = eqb-true x y h in eq-eqb (x * 2 + 1) (y * 2 + 1) (omega arith) ∙ sym h
+        go false h = let e : x ≡ y → ⊥ = eqb-false x y h in ne-eqb (x * 2 + 1) (y * 2 + 1) (λ q. e (omega arith)) ∙ sym h
+    odd false x y = ne-eqb (x * 2 + 0) (y * 2 + 1) (λ q. omega arith)
 
-      here : (k : ℕ) → k < n → (b : Bool) → ltb (i + k) (i + suc j) ≡ b → not b ≡ sweep nowhere P true (i + k) (i + n - (i + k))
-      here k l true e =
-          let m : i + k < i + suc j = ltb-true (i + k) (i + suc j) e in
-          sym (keep-fails P (i + k) (i + n - (i + k)) (j - k) (omega (arith, inside)) (ap P (omega arith) ∙ kept j true inside top))
-      here k l false e =
-          let m : i + suc j ≤ i + k = ltb-false (i + k) (i + suc j) e in
-          sym (keep-all P (i + k) (i + n - (i + k)) (λ d o. ap P (add-assoc i k d) ∙ kept (k + d) false (omega arith) (bit-above t (suc j) (k + d) high' (omega arith))))
+pub kept-law : (P : Sequence) (i n p all : ℕ) → all ≡ 2 ^ n - 1 → p ≡ packBits P i n → eqb p all ≡ sweep nowhere P true i n
+kept-law P i n p all ea ep = ap₂ eqb ep ea ∙ kept P i n
 
--- 64 ones, shifted by the leading zeros of a number that is not 0, end with its highest bit
-pub lead-law : (P : Sequence) (i n p all : ℕ) → n ≤ 64 → all ≡ 2 ^ n - 1 → p ≡ packBits P i n → (bitXor all p ≡ 0 → ⊥)
-    → bitXor all (18446744073709551615 / 2 ^ leadingZeros 64 (bitXor all p)) ≡ packBits (λ k. sweep nowhere P true k (i + n - k)) i n
-lead-law P i n p all few ea ep some =
-    let t : ℕ = bitXor all p in
-    let et : t ≡ packBits (λ k. not (P k)) i n = ap₂ bitXor ea ep ∙ pack-not P i n in
-    let top = leading-top 64 t (omega (arith, some)) (lt-of-lt-of-le (rw et (pack-lt (λ k. not (P k)) i n)) (pow-mono few)) in
-    let zeros : leadingZeros 64 t ≡ 64 - suc (top .0) = omega (arith, top .1) in
-    ap₂ bitXor ea (ap (λ (z : ℕ). 18446744073709551615 / 2 ^ z) zeros ∙ shifted-ones (suc (top .0)) (omega (arith, top .1)))
-    ∙ lead-from P i n t et (top .0) (top .2) (top .3)
+pub first-law : (G P : Sequence) (i n g p q all : ℕ) (carry : Bool) → n ≤ 64 → q ≡ (p + 1) % 2 ^ 64 → all ≡ 2 ^ n - 1 → g ≡ packBits G i n → p ≡ packBits P i n
+    → not (eqb (bitAnd g (bitXor p q)) 0) || (eqb p all && carry) ≡ sweep G P carry i n
+first-law G P i n g p q all carry few eq ea eg ep =
+    ap₂ (λ (a b : Bool). a || (b && carry))
+    (ap (λ (x : ℕ). not (eqb (bitAnd g (bitXor p x)) 0)) eq
+    ∙ ap (λ (x : ℕ). not (eqb x 0)) (wrapped g p (p + 1) (rw eg (lt-of-lt-of-le (pack-lt G i n) (pow-mono few))) ∙ ap₂ (λ (x y : ℕ). bitAnd x (bitXor y (y + 1))) eg ep)
+    ∙ reached G P i n)
+    (kept-law P i n p all ea ep)
+    ∙ sym (sweep-carry G P carry i n)
 
--- a sweep with nothing carried in, and where the keep holds to the end
-pub carried-law : (G P : Sequence) (i n x l : ℕ) → x ≡ packBits (λ k. sweep G P false k (i + n - k)) i n
-    → l ≡ packBits (λ k. sweep nowhere P true k (i + n - k)) i n → bitOr x l ≡ packBits (λ k. sweep G P true k (i + n - k)) i n
-carried-law G P i n x l ex el =
-    ap₂ bitOr ex el
-    ∙ pack-or (λ k. sweep G P false k (i + n - k)) (λ k. sweep nowhere P true k (i + n - k)) i n
-    ∙ pack-ext _ (λ k. sweep G P true k (i + n - k)) i i n
-    (λ k m. sym (sweep-carry G P true (i + k) (i + n - (i + k))
-    ∙ ap (λ (b : Bool). sweep G P false (i + k) (i + n - (i + k)) || b) (and-true (sweep nowhere P true (i + k) (i + n - (i + k))))))
+-- ---- the carry taken in
+
+-- a carry that the last of the positions before e takes in as a goal
+abbrev carriedIn : Sequence → Sequence → Bool → ℕ → Sequence
+carriedIn G P c e k = G k || (P k && (eqb (suc k) e && c))
+
+sweep-carried : (G P : Sequence) (c : Bool) (e k m : ℕ) → k + suc m ≡ e → sweep (carriedIn G P c e) P false k (suc m) ≡ sweep G P c k (suc m)
+unfolding sweep
+sweep-carried G P c e k zero h =
+    ap (λ (b : Bool). (G k || (P k && (b && c))) || (P k && false)) (eq-eqb (suc k) e (omega arith)) ∙ last (G k) (P k) c
+  where
+    last : (a b c : Bool) → (a || (b && (true && c))) || (b && false) ≡ a || (b && c)
+    last true b c = refl
+    last false true true = refl
+    last false true false = refl
+    last false false c = refl
+sweep-carried G P c e k (suc m) h =
+    ap₂ (λ (b s : Bool). (G k || (P k && (b && c))) || (P k && s)) (ne-eqb (suc k) e (λ q. omega arith)) (sweep-carried G P c e (suc k) m (omega arith))
+    ∙ inner (G k) (P k) (sweep G P c (suc k) (suc m))
+  where
+    inner : (a b s : Bool) → (a || (b && (false && c))) || (b && s) ≡ a || (b && s)
+    inner true b s = refl
+    inner false true s = refl
+    inner false false s = refl
+
+pub bool-digit : (b : Bool) → boolByte b ≡ digit b
+bool-digit true = refl
+bool-digit false = refl
+
+-- the carry as a bit at the last of n positions
+pack-carry : (c : Bool) (i n : ℕ) → suc n ≤ 64 → digit c * 2 ^ (suc n - 1) % 2 ^ 64 ≡ packBits (λ k. eqb (suc k) (i + suc n) && c) i (suc n)
+pack-carry true i n h =
+    last-bit n h ∙ pack-top i (i + suc n) n refl ∙ pack-ext _ (λ k. eqb (suc k) (i + suc n) && true) i i (suc n) (λ k l. sym (and-true (eqb (suc (i + k)) (i + suc n))))
+pack-carry false i n h =
+    ap (λ (y : ℕ). y % 2 ^ 64) (zero-mul (2 ^ (suc n - 1))) ∙ pack-zeros i (suc n) ∙ pack-ext _ (λ k. eqb (suc k) (i + suc n) && false) i i (suc n) (λ k l. sym (and-false (eqb (suc (i + k)) (i + suc n))))
+
+module _ (G P : Sequence) (i n : ℕ) (carry : Bool) (some : 1 ≤ n) where
+  pub goal-carried : (g p c : ℕ) → n ≤ 64 → c ≡ digit carry → g ≡ packBits G i n → p ≡ packBits P i n
+      → bitOr g (bitAnd p (c * 2 ^ (n - 1) % 2 ^ 64)) ≡ packBits (carriedIn G P carry (i + n)) i n
+  goal-carried g p c few ec eg ep =
+      let m : n ≡ suc (n - 1) = omega arith in
+      let top : c * 2 ^ (n - 1) % 2 ^ 64 ≡ packBits (λ k. eqb (suc k) (i + n) && carry) i n =
+      ap (λ (x : ℕ). x * 2 ^ (n - 1) % 2 ^ 64) ec
+      ∙ subst (λ (x : ℕ). digit carry * 2 ^ (x - 1) % 2 ^ 64 ≡ packBits (λ k. eqb (suc k) (i + x) && carry) i x) (sym m) (pack-carry carry i (n - 1) (omega arith)) in
+      ap₂ bitOr eg (ap₂ bitAnd ep top ∙ pack-and P (λ k. eqb (suc k) (i + n) && carry) i n) ∙ pack-or G (λ k. P k && (eqb (suc k) (i + n) && carry)) i n
+
+  pub swept-law : (r : ℕ) → r ≡ packBits (λ k. sweep (carriedIn G P carry (i + n)) P false k (i + n - k)) i n → r ≡ packBits (λ k. sweep G P carry k (i + n - k)) i n
+  swept-law r e =
+      e
+      ∙ pack-ext _ (λ k. sweep G P carry k (i + n - k)) i i n
+      (λ k l. let m : i + n - (i + k) ≡ suc (i + n - (i + k) - 1) = omega arith in
+      rw m (sweep-carried G P carry (i + n) (i + k) (i + n - (i + k) - 1) (omega arith)))
 
 -- ---- letters
 
 -- the bit of a letter, and its denial, as a digit
 pub literal-held : (v n : ℕ) (positive : Bool) → positive ≡ true → v / 2 ^ (n - 1) % 2 ≡ digit (literal n positive v)
-unfolding letterIn
+unfolding letterIn bit
 literal-held v n positive e = rw e (held (v / 2 ^ (n - 1) % 2) (mod-lt (v / 2 ^ (n - 1)) (omega arith)))
   where
     held : (d : ℕ) → d < 2 → d ≡ digit (Bool·beq true (eqb d 1))
@@ -192,7 +241,7 @@ literal-held v n positive e = rw e (held (v / 2 ^ (n - 1) % 2) (mod-lt (v / 2 ^ 
     held (suc (suc d)) h = absurd (omega arith)
 
 pub literal-denied : (v n : ℕ) (positive : Bool) → positive ≡ false → 1 - v / 2 ^ (n - 1) % 2 ≡ digit (literal n positive v)
-unfolding letterIn
+unfolding letterIn bit
 literal-denied v n positive e = rw e (denied (v / 2 ^ (n - 1) % 2) (mod-lt (v / 2 ^ (n - 1)) (omega arith)))
   where
     denied : (d : ℕ) → d < 2 → 1 - d ≡ digit (Bool·beq false (eqb d 1))

@@ -2,16 +2,12 @@
 -- Position i stands at bit i % 64, bit 0 the lowest, of word i / 64, counted from 0; the unused high bits are 0.
 -- A truth sequence is a function from positions; of it only what stands below L counts.
 use mathlib.Core.Path.{_≡_}
-use Prim.Native.Nat.{ℕ, zero, suc, _+_, _-_, _*_, _/_, _%_, _^_, _≤_, _<_, min}
+use Prim.Native.Nat.{ℕ, zero, suc, _+_, _-_, _*_, _/_, _%_, _≤_, _<_, min}
 use mathlib.Core.Bool.{Bool, true, false, cond}
 use mathlib.Core.List.{List, [], _∷_}
 use lib.ListN.{getD}
-use lib.Dec.{eqb}
+use lib.Dec.{ltb}
 use Rattle.logic.specs.Truth.{Sequence, sweep}
-
--- bit k of a number, bit 0 the lowest
-unfoldable pub bit : ℕ → ℕ → Bool
-bit x k = eqb (x / 2 ^ k % 2) 1
 
 abbrev pub digit : Bool → ℕ
 digit true = 1
@@ -44,6 +40,10 @@ row L f = wordsFrom L f 0 (rowWords L)
 -- words lo to hi - 1 of a list are those of the row of a sequence
 pub record Written (L : ℕ) (f : Sequence) (lo hi : ℕ) (r : List ℕ) : Type 0 where
   pub word : (w : ℕ) → lo ≤ w → w < hi → getD r w 0 ≡ wordOf L f w
+
+-- each position's next value; after the last one comes c
+abbrev pub next : ℕ → Sequence → Bool → Sequence
+next L f c i = cond (ltb (suc i) L) (f (suc i)) c
 
 -- a sweep that ends with the word of its position
 abbrev pub wordSweep : ℕ → Sequence → Sequence → Bool → Sequence

@@ -1,13 +1,15 @@
 // One word of a row at a time: n positions, 1 to 64 of them, in the n low bits, and nothing above them.
 ghost use mathlib.Core.Path.{_≡_};
-ghost use mathlib.Core.Bool.{true, false, cond};
-ghost use Prim.Native.Nat.{ℕ, suc, _+_, _-_, _*_, _^_, _≤_, _<_};
-ghost use lib.Dec.{ltb};
+ghost use mathlib.Core.Bool.{false, cond};
+ghost use Prim.Native.Nat.{ℕ, suc, _+_, _-_, _*_, _%_, _^_, _≤_, _<_};
+ghost use lib.Dec.{ltb, eqb};
 ghost use lib.ListN.{length, getD};
+ghost use Rattle.logic.specs.Bit as bits;
 ghost use Rattle.logic.specs.Truth.{Sequence, sweep, across};
 ghost use Rattle.row_words.specs.Row as rows;
 ghost use Rattle.row_words.specs.Writing as writing;
 use super::connective::Connective;
+use std::num::wrapping_add_u64;
 
 // How many of the positions stand in word w of their row.
 pub fn filled(positions: usize, w: usize) -> usize
@@ -29,7 +31,7 @@ pub fn ones(n: usize) -> u64
 // Bit k of a word.
 pub fn bit(word: u64, k: usize) -> bool
     requires { ⌜ k < 64 ⌝ }
-    ensures { λ r. ⌜ r ≡ rows.bit word k ⌝ }
+    ensures { λ r. ⌜ r ≡ bits.bit word k ⌝ }
 {
     (word >> k) % 2 == 1
 }
@@ -65,18 +67,14 @@ pub fn join(op: Connective, x: u64, y: u64, n: usize) -> u64
     }
 }
 
-// The next position's value at n positions: the last one takes the carry.
-pub fn shift(x: u64, carry: bool, n: usize) -> u64
+// The next position's value at n positions: the last one takes the first of the word after.
+pub fn shift(x: u64, after: u64, n: usize) -> u64
     requires { ⌜ (1 ≤ n) × (n ≤ 64) ⌝ }
     ensures { λ r. ⌜ ((A : Sequence) (i : ℕ)
         → x ≡ rows.packBits A i n
-        → r ≡ rows.packBits (λ k. cond (ltb (suc k) (i + n)) (A (suc k)) carry) i n) ⌝ }
+        → r ≡ rows.packBits (λ k. cond (ltb (suc k) (i + n)) (A (suc k)) (eqb (after % 2) 1)) i n) ⌝ }
 {
-    let half = x >> 1;
-    if carry {
-        return half | (1u64 << (n - 1));
-    }
-    half
+    (x >> 1) | ((after % 2) << (n - 1))
 }
 
 // A backward sweep with nothing carried in, in six doublings: once the width is d, bit k of g says whether the sweep over the d
@@ -100,33 +98,29 @@ pub fn closed(g: u64, p: u64) -> u64
     g32 | (p32 & (g32 >> 32))
 }
 
-// The ones of p that lead down from the last of the n positions: where p holds from there to the end.
-pub fn lead(p: u64, n: usize) -> u64
-    requires { ⌜ (1 ≤ n) × (n ≤ 64) ⌝ }
-    ensures { λ r. ⌜ ((P : Sequence) (i : ℕ)
-        → p ≡ rows.packBits P i n
-        → r ≡ rows.packBits (λ k. sweep rows.nowhere P true k (i + n - k)) i n) ⌝ }
-{
-    let all = ones(n);
-    let denied = all ^ p;
-    if denied == 0 {
-        return all;
-    }
-    all ^ (u64::MAX >> u64::leading_zeros(denied))
-}
-
-// A sweep x with nothing carried in, with the carry joined to it: it comes through where p holds all the way.
-pub fn carried(x: u64, p: u64, carry: bool, n: usize) -> u64
+// What a sweep of n positions comes to at the first of them. The lowest bits of p, up to the first one that fails, change when 1 is added;
+// where p fails nowhere, the carry comes through.
+pub fn first(g: u64, p: u64, carry: bool, n: usize) -> bool
     requires { ⌜ (1 ≤ n) × (n ≤ 64) ⌝ }
     ensures { λ r. ⌜ ((G P : Sequence) (i : ℕ)
-        → x ≡ rows.packBits (λ k. sweep G P false k (i + n - k)) i n
+        → g ≡ rows.packBits G i n
+        → p ≡ rows.packBits P i n
+        → r ≡ sweep G P carry i n) ⌝ }
+{
+    let reached = g & (p ^ wrapping_add_u64(p, 1)) != 0;
+    let kept = p == ones(n);
+    reached | (kept & carry)
+}
+
+// A backward sweep of n positions with the carry taken in: at the last of them it is as good as the goal, if p holds there.
+pub fn swept(g: u64, p: u64, carry: bool, n: usize) -> u64
+    requires { ⌜ (1 ≤ n) × (n ≤ 64) ⌝ }
+    ensures { λ r. ⌜ ((G P : Sequence) (i : ℕ)
+        → g ≡ rows.packBits G i n
         → p ≡ rows.packBits P i n
         → r ≡ rows.packBits (λ k. sweep G P carry k (i + n - k)) i n) ⌝ }
 {
-    if carry {
-        return x | lead(p, n);
-    }
-    x
+    closed(g | (p & ((carry as u64) << (n - 1))), p)
 }
 
 // A letter, or its denial, at the n samples from the first on.

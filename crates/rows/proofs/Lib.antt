@@ -1,3 +1,2 @@
 -- The laws of rows.
 pub mod Rows
-pub mod Reading

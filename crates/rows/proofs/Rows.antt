@@ -1,18 +1,21 @@
 -- Rows as lists of words: a row is given by its words, and its bits are the sequence.
 use mathlib.Core.Path.{_≡_, refl, sym, ap, ap₂, _∙_}
-use mathlib.Core.Bool.{Bool, true, false, cond, _&&_, _||_}
+use mathlib.Core.Bool.{Bool, true, false, cond, _&&_, _||_, and-true}
 use mathlib.Core.List.{List}
 use Prim.Native.Nat.{ℕ, zero, suc, _+_, _-_, _*_, _/_, _%_, _≤_, _<_, min}
 use native.Mathlib.Nat.{add-suc, suc-add, add-zero, zero-add, le-of-suc-le-suc}
+use native.Mathlib.Numerals.{add-one}
 use native.Mathlib.Decide.{decLe}
 use native.Mathlib.Omega.{arith}
 use borrow.Author.Tests.{lt-ltb, le-ltb, ltb-true, ltb-false, eqb-true, eqb-false}
 use lib.Dec.{eqb, ltb}
-use lib.ListN.{length, getD, set}
+use lib.ListN.{length, length-set, getD, set}
 use lib.Seq.{getD-set-same, getD-set-other, ext-getD}
-use Rattle.logic.specs.Truth.{Sequence, sweep, shifted, looped}
+use mir.Val.{boolByte}
+use Rattle.logic.specs.Truth.{Sequence, sweep}
 use Rattle.logic.proofs.Lasso.Sequence.{sweep-append}
-use Rattle.row_words.specs.Row.{bit, packBits, rowWords, filled, wordOf, wordsFrom, row, Written, wordSweep, nowhere}
+use Rattle.logic.specs.Bit.{bit}
+use Rattle.row_words.specs.Row.{packBits, rowWords, filled, wordOf, wordsFrom, row, Written, next, wordSweep, nowhere}
 use Rattle.row_words.proofs.Bits.{bit-pack, bit-zero, pack-ext}
 use Rattle.row_words.proofs.Sweep.{sweep-done, sweep-carry}
 
@@ -59,16 +62,18 @@ pub written-up : {L : ℕ} {f : Sequence} {r : List ℕ} {v x : ℕ} → Written
 written-up {L} {f} {r} {v} {x} h inside here =
     record { word = λ w a b. written-one L f r v x w inside here (λ n. h .word w a (omega arith)) }
 
+-- the last word, and with it the row
+pub written-last : {L : ℕ} {f : Sequence} {r : List ℕ} {u v x : ℕ} → Written L f 0 u r → u ≡ v → v + 1 ≡ rowWords L → length r ≡ rowWords L → x ≡ wordOf L f v
+    → set r v x ≡ row L f
+written-last {L} {f} {r} {u} {v} {x} h q s e here =
+    let below : Written L f 0 v r = record { word = λ w a b. h .word w a (omega arith) } in
+    written-row (length-set r v x ∙ e) s (written-up below (omega arith) here)
+
 -- one more word below
 pub written-down : {L : ℕ} {f : Sequence} {r : List ℕ} {u hi : ℕ} → Written L f u hi r → (v : ℕ) {x : ℕ} → u ≡ suc v → v < length r → x ≡ wordOf L f v
     → Written L f v hi (set r v x)
 written-down {L} {f} {r} {u} {hi} h v {x} q inside here =
     record { word = λ w a b. written-one L f r v x w inside here (λ n. h .word w (omega arith) b) }
-
--- the words below stay
-pub written-below : {L : ℕ} {f : Sequence} {r : List ℕ} {u : ℕ} → Written L f 0 u r → (v x : ℕ) → v < u → Written L f 0 v (set r v x)
-written-below {L} {f} {r} h v x l =
-    record { word = λ w a b. getD-set-other r v w x 0 (λ e. omega arith) ∙ h .word w a (omega arith) }
 
 -- ---- positions
 
@@ -111,75 +116,105 @@ pub pack-word : (L : ℕ) (f : Sequence) (w n x : ℕ) → n ≡ filled L w → 
 unfolding wordOf
 pack-word L f w n x en ex = ex ∙ ap (packBits f (w * 64)) en
 
--- a sweep of word w's positions to the word's end
-pub word-swept : (L : ℕ) (G P : Sequence) (c : Bool) (w n : ℕ) → n ≡ filled L w
-    → packBits (λ k. sweep G P c k (w * 64 + n - k)) (w * 64) n ≡ wordOf L (wordSweep L G P c) w
-unfolding wordOf
-word-swept L G P c w n en =
-    pack-ext _ (wordSweep L G P c) (w * 64) (w * 64) n (λ k l. ap (sweep G P c (w * 64 + k)) (omega arith))
-    ∙ ap (packBits (wordSweep L G P c) (w * 64)) en
-
--- the bit of a position in what leads down from its word's last one
-pub lead-bit : (L : ℕ) (P : Sequence) (x i : ℕ) {n : ℕ} → i < L
-    → x ≡ packBits (λ k. sweep nowhere P true k (i / 64 * 64 + n - k)) (i / 64 * 64) n → n ≡ filled L (i / 64)
-    → bit x (i % 64) ≡ wordSweep L nowhere P true i
-lead-bit L P x i {n} h e en =
-    ap (λ (y : ℕ). bit y (i % 64)) (e ∙ word-swept L nowhere P true (i / 64) n en) ∙ word-bit L (wordSweep L nowhere P true) i h
-
 -- ---- words from the last one down
 
--- a sweep of word w, from what the sweep comes to at the first position of the word after
-pub sweep-word : (L : ℕ) (G P : Sequence) (c carry : Bool) (w u n : ℕ) → w * 64 < L → u ≡ suc w → n ≡ filled L w
-    → carry ≡ sweep G P c (u * 64) (L - u * 64)
-    → packBits (λ k. sweep G P carry k (w * 64 + n - k)) (w * 64) n ≡ wordOf L (λ i. sweep G P c i (L - i)) w
-unfolding wordOf
-sweep-word L G P c carry w u n h eu en ec =
-    pack-ext _ (λ i. sweep G P c i (L - i)) (w * 64) (w * 64) n here
-    ∙ ap (packBits (λ i. sweep G P c i (L - i)) (w * 64)) en
-  where
-    -- after the word's n positions either the next word starts, or no position is left
-    end : (t : Bool) → ltb (u * 64) L ≡ t → carry ≡ sweep G P c (w * 64 + n) (L - (w * 64 + n))
-    end true e = let l = ltb-true (u * 64) L e in ec ∙ ap₂ (sweep G P c) (omega arith) (omega arith)
-    end false e =
-        let l = ltb-false (u * 64) L e in
-        let z : L - u * 64 ≡ 0 = omega arith in
-        let y : L - (w * 64 + n) ≡ 0 = omega arith in
-        ec ∙ sweep-done G P c (u * 64) (L - u * 64) z ∙ sym (sweep-done G P c (w * 64 + n) (L - (w * 64 + n)) y)
+-- the sweep from word w on, from what it comes to at the first position of the word after
+module _ (L : ℕ) (G P : Sequence) (c carry : Bool) (w u n : ℕ) (h : w * 64 < L) (eu : u ≡ suc w) (en : n ≡ filled L w)
+    (ec : carry ≡ sweep G P c (u * 64) (L - u * 64)) where
+  -- after the word's n positions either the next word starts, or no position is left
+  word-end : (t : Bool) → ltb (u * 64) L ≡ t → carry ≡ sweep G P c (w * 64 + n) (L - (w * 64 + n))
+  word-end true e = let l = ltb-true (u * 64) L e in ec ∙ ap₂ (sweep G P c) (omega arith) (omega arith)
+  word-end false e =
+      let l = ltb-false (u * 64) L e in
+      let z : L - u * 64 ≡ 0 = omega arith in
+      let y : L - (w * 64 + n) ≡ 0 = omega arith in
+      ec ∙ sweep-done G P c (u * 64) (L - u * 64) z ∙ sym (sweep-done G P c (w * 64 + n) (L - (w * 64 + n)) y)
 
-    here : (k : ℕ) → k < n → sweep G P carry (w * 64 + k) (w * 64 + n - (w * 64 + k)) ≡ sweep G P c (w * 64 + k) (L - (w * 64 + k))
-    here k l =
-        ap (λ (b : Bool). sweep G P b (w * 64 + k) (w * 64 + n - (w * 64 + k))) (end (ltb (u * 64) L) refl)
-        ∙ ap (λ (i : ℕ). sweep G P (sweep G P c i (L - (w * 64 + n))) (w * 64 + k) (w * 64 + n - (w * 64 + k))) (omega arith)
-        ∙ sym (sweep-append G P c (w * 64 + k) (w * 64 + n - (w * 64 + k)) (L - (w * 64 + n)))
-        ∙ ap (sweep G P c (w * 64 + k)) (omega arith)
+  pub sweep-from : (i m : ℕ) → i + m ≡ w * 64 + n → sweep G P carry i m ≡ sweep G P c i (L - i)
+  sweep-from i m e =
+      ap (λ (b : Bool). sweep G P b i m) (word-end (ltb (u * 64) L) refl)
+      ∙ ap (λ (j : ℕ). sweep G P (sweep G P c j (L - (w * 64 + n))) i m) (sym e)
+      ∙ sym (sweep-append G P c i m (L - (w * 64 + n)))
+      ∙ ap (sweep G P c i) (omega arith)
 
--- word w one position on, from the value at the first position of the word after, or at the loop start if there is none
-pub next-word : (L s : ℕ) (A : Sequence) (carry : Bool) (w u n : ℕ) → w * 64 < L → u ≡ suc w → n ≡ filled L w
-    → carry ≡ cond (ltb (u * 64) L) (A (u * 64)) (A s)
-    → packBits (λ k. cond (ltb (suc k) (w * 64 + n)) (A (suc k)) carry) (w * 64) n ≡ wordOf L (looped L s shifted A A) w
+  pub sweep-word : packBits (λ k. sweep G P carry k (w * 64 + n - k)) (w * 64) n ≡ wordOf L (λ i. sweep G P c i (L - i)) w
+  unfolding wordOf
+  sweep-word =
+      pack-ext _ (λ i. sweep G P c i (L - i)) (w * 64) (w * 64) n (λ k l. sweep-from (w * 64 + k) (w * 64 + n - (w * 64 + k)) (omega arith))
+      ∙ ap (packBits (λ i. sweep G P c i (L - i)) (w * 64)) en
+
+-- word w one position on, from the value at the first position of the word after, or from what comes in at the end if there is none
+pub next-word : (L : ℕ) (A : Sequence) (c carry : Bool) (w n : ℕ) → w * 64 < L → n ≡ filled L w
+    → carry ≡ cond (ltb (suc w * 64) L) (A (suc w * 64)) c
+    → packBits (λ k. cond (ltb (suc k) (w * 64 + n)) (A (suc k)) carry) (w * 64) n ≡ wordOf L (next L A c) w
 unfolding wordOf
-next-word L s A carry w u n h eu en ec =
-    pack-ext _ (looped L s shifted A A) (w * 64) (w * 64) n (λ k l. here k l (ltb (suc (w * 64 + k)) (w * 64 + n)) refl)
-    ∙ ap (packBits (looped L s shifted A A) (w * 64)) en
+next-word L A c carry w n h en ec =
+    pack-ext _ (next L A c) (w * 64) (w * 64) n (λ k l. here k l (ltb (suc (w * 64 + k)) (w * 64 + n)) refl)
+    ∙ ap (packBits (next L A c) (w * 64)) en
   where
-    last : (k : ℕ) → k < n → w * 64 + n ≤ suc (w * 64 + k) → (t : Bool) → ltb (u * 64) L ≡ t
-        → cond t (A (u * 64)) (A s) ≡ looped L s shifted A A (w * 64 + k)
+    last : (k : ℕ) → k < n → w * 64 + n ≤ suc (w * 64 + k) → (t : Bool) → ltb (suc w * 64) L ≡ t
+        → cond t (A (suc w * 64)) c ≡ next L A c (w * 64 + k)
     last k l m true e =
-        let o = ltb-true (u * 64) L e in
-        let q : u * 64 ≡ suc (w * 64 + k) = omega arith in
+        let o = ltb-true (suc w * 64) L e in
+        let q : suc w * 64 ≡ suc (w * 64 + k) = omega arith in
         rw (← q, e)
     last k l m false e =
-        let o = ltb-false (u * 64) L e in
+        let o = ltb-false (suc w * 64) L e in
         rw (le-ltb (suc (w * 64 + k)) L (omega arith))
 
     here : (k : ℕ) → k < n → (t : Bool) → ltb (suc (w * 64 + k)) (w * 64 + n) ≡ t
-        → cond t (A (suc (w * 64 + k))) carry ≡ looped L s shifted A A (w * 64 + k)
+        → cond t (A (suc (w * 64 + k))) carry ≡ next L A c (w * 64 + k)
     here k l true e =
         let m = ltb-true (suc (w * 64 + k)) (w * 64 + n) e in
         rw (lt-ltb (suc (w * 64 + k)) L (omega arith))
     here k l false e =
         let m = ltb-false (suc (w * 64 + k)) (w * 64 + n) e in
-        ec ∙ last k l m (ltb (u * 64) L) refl
+        ec ∙ last k l m (ltb (suc w * 64) L) refl
+
+bool-low : (b : Bool) → eqb (boolByte b % 2) 1 ≡ b
+bool-low true = refl
+bool-low false = refl
+
+-- the same of the words of a row: the word after is there, or word w is the last
+module _ (L : ℕ) (A : Sequence) (a : List ℕ) (c : Bool) (e : a ≡ row L A) where
+  pub inner-next : (w x : ℕ) → suc w < rowWords L
+      → ((B : Sequence) (i : ℕ) → getD a w 0 ≡ packBits B i 64 → x ≡ packBits (λ k. cond (ltb (suc k) (i + 64)) (B (suc k)) (eqb (getD a (w + 1) 0 % 2) 1)) i 64)
+      → x ≡ wordOf L (next L A c) w
+  inner-next w x h law =
+      let n : 64 ≡ filled L w = omega arith in
+      let o : suc w * 64 < L = omega arith in
+      law A (w * 64) (row-pack L A a e w 64 (omega arith) n)
+      ∙ next-word L A c _ w 64 (omega arith) n
+      (ap (λ (v : ℕ). eqb (getD a v 0 % 2) 1) (add-one w) ∙ row-low L A a e (suc w) o ∙ sym (ap (λ (t : Bool). cond t (A (suc w * 64)) c) (lt-ltb (suc w * 64) L o)))
+
+  pub last-next : (w n x : ℕ) → suc w ≡ rowWords L → 1 ≤ L → n ≡ filled L w
+      → ((B : Sequence) (i : ℕ) → getD a w 0 ≡ packBits B i n → x ≡ packBits (λ k. cond (ltb (suc k) (i + n)) (B (suc k)) (eqb (boolByte c % 2) 1)) i n)
+      → x ≡ wordOf L (next L A c) w
+  last-next w n x h some en law =
+      law A (w * 64) (row-pack L A a e w n (omega arith) en)
+      ∙ next-word L A c _ w n (omega arith) en (bool-low c ∙ sym (ap (λ (t : Bool). cond t (A (suc w * 64)) c) (le-ltb (suc w * 64) L (omega arith))))
+
+-- ---- rows that need no sweep
+
+-- word by word: what holds at the positions of each word holds at all
+pub by-words : (L : ℕ) (f g : Sequence) → ((w : ℕ) → w < rowWords L → wordOf L f w ≡ wordOf L g w) → (i : ℕ) → i < L → f i ≡ g i
+by-words L f g e i h = sym (word-bit L f i h) ∙ ap (λ (x : ℕ). bit x (i % 64)) (e (i / 64) (omega arith)) ∙ word-bit L g i h
+
+-- a sweep with the carry where the goal or the keep holds at every position
+pub sweep-everywhere : (L : ℕ) (G P : Sequence) → ((i : ℕ) → i < L → G i || P i ≡ true) → (i n : ℕ) → i + n ≤ L → sweep G P true i n ≡ true
+unfolding sweep
+sweep-everywhere L G P e i zero h = refl
+sweep-everywhere L G P e i (suc n) h =
+    ap (λ (b : Bool). G i || (P i && b)) (sweep-everywhere L G P e (suc i) n (omega arith)) ∙ ap (λ (b : Bool). G i || b) (and-true (P i)) ∙ e i (omega arith)
+
+-- a sweep where one step adds nothing to the goal
+pub sweep-settled : (L : ℕ) (G P : Sequence) (c : Bool) → ((i : ℕ) → i < L → G i || (P i && next L G c i) ≡ G i) → (i n : ℕ) → i + suc n ≡ L → sweep G P c i (suc n) ≡ G i
+unfolding sweep
+sweep-settled L G P c e i zero h =
+    ap (λ (b : Bool). G i || (P i && b)) (sym (ap (λ (t : Bool). cond t (G (suc i)) c) (le-ltb (suc i) L (omega arith)))) ∙ e i (omega arith)
+sweep-settled L G P c e i (suc n) h =
+    ap (λ (b : Bool). G i || (P i && b))
+    (sweep-settled L G P c e (suc i) n (omega arith) ∙ sym (ap (λ (t : Bool). cond t (G (suc i)) c) (lt-ltb (suc i) L (omega arith)))) ∙ e i (omega arith)
 
 -- ---- a sweep word by word upward
 

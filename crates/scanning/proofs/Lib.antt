@@ -1,4 +1,3 @@
--- What is open as a stack, the words that an operand's end puts, and how much room a byte takes.
-pub mod Settling
+-- What a byte makes, and how much room it takes.
 pub mod Making
 pub mod Sizes

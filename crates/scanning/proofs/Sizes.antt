@@ -7,13 +7,15 @@ use lib.ListN.{length}
 use lib.Dec.{eqb, leb}
 use Rattle.table.specs.Node.{kind, left, pack}
 use Rattle.table.specs.Numbering.{Placed, put}
-use Rattle.scanning.specs.declared.sign.Sign.{Sign}
-use Rattle.scanning.specs.declared.sign.Sign.the-variants.{Blank, Constant, Letter, Prefix, Operator, Open, Close, Unknown}
+use Rattle.signs.specs.declared.Sign.{Sign}
+use Rattle.signs.specs.declared.Sign.the-variants.{Blank, Constant, Letter, Prefix, Operator, Open, Close, Unknown}
 use Rattle.scanning.specs.declared.reader.Turn.{Turn}
 use Rattle.scanning.specs.declared.reader.Turn.the-variants as turns
 use Rattle.grammar.specs.Reader.{markOf, isDigit}
-use Rattle.scanning.specs.Numbers.{signed, Words, words, stuckWords, Ended, endedWords, isPrefix, settleWords, beginWords, joinWords, closeWords, followWords, followEnded, digitWords, letterWords, turnWords, stepWords, size}
-use Rattle.scanning.proofs.Settling.{put-few}
+use Rattle.signs.specs.Signed.{signed}
+use Rattle.settling.specs.Settled.{Ended, isPrefix, settleWords}
+use Rattle.scanning.specs.Numbers.{Words, words, stuckWords, endedWords, beginWords, joinWords, closeWords, followWords, followEnded, digitWords, letterWords, turnWords, stepWords, size}
+use Rattle.settling.proofs.Settling.{put-few}
 
 -- of two, the larger
 cond-size : (b : Bool) (x y : Words) (n : ℕ) → size x ≤ n → size y ≤ n → size (cond b x y) ≤ n

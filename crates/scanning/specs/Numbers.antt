@@ -9,44 +9,14 @@ use Rattle.logic.specs.Formula.{Formula, Unary, Binary}
 use Rattle.table.specs.Node.{kind, left, pack, unaryKind, binaryKind}
 use Rattle.table.specs.Numbering.{Placed, put}
 use Rattle.placing.specs.State as draft
-use Rattle.scanning.specs.declared.sign.Sign.{Sign}
-use Rattle.scanning.specs.declared.sign.Sign.the-variants.{Blank, Constant, Letter, Prefix, Operator, Open, Close, Unknown}
+use Rattle.signs.specs.declared.Sign.{Sign}
+use Rattle.signs.specs.declared.Sign.the-variants.{Blank, Constant, Letter, Prefix, Operator, Open, Close, Unknown}
 use Rattle.scanning.specs.declared.reader.Turn.{Turn}
 use Rattle.scanning.specs.declared.reader.Turn.the-variants as turns
 use Rattle.scanning.specs.declared.reader.Reader.{Reader}
-use Rattle.scanning.specs.declared.reader.Operand.{Operand}
-use Rattle.grammar.specs.Grammar.{Symbol, constant, letter, prefix, operator, open-bracket, close-bracket}
-use Rattle.grammar.specs.Reader.{Mark, blank, begins, begins-letter, unknown, otherBytes, markOf, isDigit}
-
--- bytes in one number, the first lowest
-abbrev pub packed : List ℕ → ℕ
-packed [] = 0
-packed (b ∷ bs) = b + 256 * packed bs
-
-abbrev pub signedSymbol : Symbol → Sign
-signedSymbol (constant b) = Constant (cond b 2 1) (packed (otherBytes (constant b)))
-signedSymbol (letter n) = Unknown
-signedSymbol (prefix o) = Prefix (unaryKind o)
-signedSymbol (operator o) = Operator (binaryKind o) (packed (otherBytes (operator o)))
-signedSymbol open-bracket = Open
-signedSymbol close-bracket = Close
-
-abbrev pub signed : Mark → Sign
-signed blank = Blank
-signed (begins x) = signedSymbol x
-signed begins-letter = Letter
-signed unknown = Unknown
-
--- the kind of a sign is a kind of word
-abbrev pub Kinded : Sign → Type 0
-Kinded Blank = Unit {0}
-Kinded (Constant k left) = k < 16
-Kinded Letter = Unit {0}
-Kinded (Prefix k) = k < 16
-Kinded (Operator k left) = k < 16
-Kinded Open = Unit {0}
-Kinded Close = Unit {0}
-Kinded Unknown = Unit {0}
+use Rattle.signs.specs.Signed.{signed}
+use Rattle.settling.specs.Settled.{isPrefix, Ended, settleWords, topFirst}
+use Rattle.grammar.specs.Reader.{markOf, isDigit}
 
 -- the bytes that are left of a symbol, what may come next, what is open, and the words so far
 pub record Words : Type 0 where
@@ -61,22 +31,8 @@ words l n s t = record { left = l; turn = n; stack = s; table = t }
 abbrev pub stuckWords : List ℕ → List ℕ → Words
 stuckWords s t = words 0 turns.Stuck s t
 
-abbrev pub isPrefix : ℕ → Bool
-isPrefix k = eqb k 7 || leb 12 k && leb k 14
-
--- an operand that has ended: what is still open, and the operand's number in the words so far
-pub record Ended : Type 0 where
-  pub stack : List ℕ
-  pub placed : Placed
-
 abbrev pub endedWords : ℕ → Ended → Words
 endedWords l e = words l (turns.Ended (e .placed .number)) (e .stack) (e .placed .table)
-
--- the words of the prefixes that wait for an operand are put
-unfoldable pub settleWords : List ℕ → Placed → Ended
-settleWords [] p = record { stack = []; placed = p }
-settleWords (e ∷ s) p =
-    cond (isPrefix (kind e)) (settleWords s (put (p .table) (pack (kind e) 0 (p .number)))) (record { stack = e ∷ s; placed = p })
 
 unfoldable pub beginWords : Sign → List ℕ → List ℕ → Words
 beginWords Blank s t = words 0 turns.Operand s t
@@ -131,11 +87,6 @@ stepWords y b =
     cond (eqb (y .left) 0) (turnWords (y .turn) b (y .stack) (y .table))
     (cond (eqb (y .left % 256) b) (words (y .left / 256) (y .turn) (y .stack) (y .table)) (stuckWords (y .stack) (y .table)))
 
--- the first entries of a slice, the last of them first
-abbrev pub topFirst : List ℕ → ℕ → List ℕ
-topFirst l zero = []
-topFirst l (suc d) = getD l d 0 ∷ topFirst l d
-
 -- what the code holds
 abbrev pub viewed : Reader → List ℕ → draft.State → Words
 viewed r stack s = words (r .left) (r .turn) (topFirst stack (r .depth)) (draft.written s)
@@ -146,25 +97,6 @@ Fit turns.Operand = Unit {0}
 Fit (turns.Letter n) = n ≤ 32
 Fit (turns.Ended n) = n ≤ 1025
 Fit turns.Stuck = Unit {0}
-
--- the operand's number, in the words so far
-abbrev pub placedIn : draft.State → ℕ → Placed
-placedIn s n = record { table = draft.written s; number = n }
-
--- room for what is open and for the words, each of which took a byte, and for so many words more
-pub record Room (stack : List ℕ) (s : draft.State) (depth more : ℕ) : Type 0 where
-  pub numbered : draft.Numbered s
-  pub long : length stack ≡ 1025
-  pub wide : length (s .out) ≡ 1025
-  pub room : depth + draft.count s + more ≤ 1025
-
--- the operand o, with its stack and its table, is x; no more room is taken than there was
-pub record Settles (stack : List ℕ) (e : draft.State) (depth room : ℕ) (o : Operand) (x : Ended) : Type 0 where
-  pub numbered : draft.Numbered e
-  pub small : o .number ≤ 1025
-  pub same : record { stack = topFirst stack (o .depth); placed = placedIn e (o .number) } ≡ x
-  pub shallow : o .depth ≤ depth
-  pub few : o .depth + draft.count e ≤ room
 
 -- what a step is to make, and keeps
 pub record Makes (r : Reader) (stack : List ℕ) (s : draft.State) (y : Words) : Type 0 where

@@ -1,3 +1,2 @@
-// One byte of a text: what it is, and what it makes of the words so far.
+// One byte of a text: what it makes of the words so far.
 pub mod reader;
-pub mod sign;

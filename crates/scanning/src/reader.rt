@@ -1,16 +1,18 @@
 // One byte of a text: what it makes of the stack of what is open and of the words so far.
 // The stack holds a word for each prefix and each operator whose right operand is not yet read, and 0 for a bracket without an operator.
-use crate::sign;
-use crate::sign::Sign;
-use placing::put;
+use settling::end;
+use settling::is_prefix;
+use signs::Sign;
+use signs::sign_of;
 use table::word;
 ghost use mathlib.Core.Path.{_≡_};
 ghost use mathlib.Core.List.{List, _∷_};
 ghost use Prim.Native.Nat.{ℕ, _+_, _*_, _-_, _≤_, _<_, suc};
 ghost use lib.ListN.{length};
-ghost use Rattle.table.specs.Numbering as numbering;
-ghost use Rattle.placing.specs.State.{state, written, count};
+ghost use Rattle.placing.specs.State.{state, written};
 ghost use Rattle.grammar.specs.Reader as machine;
+ghost use Rattle.signs.specs.Signed as signed;
+ghost use Rattle.settling.specs.Settled as settled;
 ghost use Rattle.scanning.specs.Numbers as numbers;
 
 // What may come next: an operand; the digits after p, with the number so far; what follows an operand, with its number; or nothing.
@@ -28,66 +30,10 @@ pub struct Reader {
     pub depth: usize,
 }
 
-// An operand that has ended: its number, and how much of the stack is left.
-pub struct Operand {
-    pub number: usize,
-    pub depth: usize,
-}
-
-fn is_prefix(kind: u32) -> bool
-    ensures { λ r. ⌜ r ≡ numbers.isPrefix kind ⌝ }
-{
-    kind == 7 || 12 <= kind && kind <= 14
-}
-
 fn is_digit(b: u8) -> bool
     ensures { λ r. ⌜ r ≡ machine.isDigit b ⌝ }
 {
     48 <= b && b <= 57
-}
-
-// An operand has ended: the words of the prefixes that wait for it are put.
-fn settle(stack: &[u32], depth: usize, out: &mut [u32], index: &mut [u16], n: usize) -> Operand
-    requires { ⌜ numbers.Room (now stack) (state (now out) (now index)) depth 0 ⌝ }
-    requires { ⌜ n ≤ 1025 ⌝ }
-    ensures { λ r. ⌜ numbers.Settles
-        (now (stack .entry))
-        (state (now (out .exit)) (now (index .exit)))
-        depth
-        (depth + count (state (now (out .entry)) (now (index .entry))))
-        r
-        (numbers.settleWords
-        (numbers.topFirst (now (stack .entry)) depth)
-        (numbers.placedIn (state (now (out .entry)) (now (index .entry))) n)) ⌝ }
-{
-    let mut number = n;
-    let mut top = depth;
-    while 0 < top {
-        let kind = word::kind(stack[top - 1]);
-        if !is_prefix(kind) {
-            return Operand { number, depth: top };
-        }
-        number = put::put(&mut *out, &mut *index, word::pack(kind, 0, number));
-        top -= 1;
-    }
-    Operand { number, depth: 0 }
-}
-
-// An operand ends with the word w.
-fn end(stack: &[u32], depth: usize, out: &mut [u32], index: &mut [u16], w: u32) -> Operand
-    requires { ⌜ numbers.Room (now stack) (state (now out) (now index)) depth 1 ⌝ }
-    ensures { λ r. ⌜ numbers.Settles
-        (now (stack .entry))
-        (state (now (out .exit)) (now (index .exit)))
-        depth
-        (suc (depth + count (state (now (out .entry)) (now (index .entry)))))
-        r
-        (numbers.settleWords
-        (numbers.topFirst (now (stack .entry)) depth)
-        (numbering.put (written (state (now (out .entry)) (now (index .entry)))) w)) ⌝ }
-{
-    let n = put::put(&mut *out, &mut *index, w);
-    settle(stack, depth, out, index, n)
 }
 
 // No rule can come of it any more.
@@ -105,7 +51,7 @@ fn stuck(depth: usize) -> Reader
 fn push(stack: &mut [u32], depth: usize, e: u32) -> Reader
     requires { ⌜ depth < length (now stack) ⌝ }
     ensures { λ r. ⌜ (r ≡ record { left = 0; turn = Turn.Operand; depth = suc depth })
-        × (numbers.topFirst (now (stack .exit)) (suc depth) ≡ e ∷ numbers.topFirst (now (stack .entry)) depth) ⌝ }
+        × (settled.topFirst (now (stack .exit)) (suc depth) ≡ e ∷ settled.topFirst (now (stack .entry)) depth) ⌝ }
 {
     stack[depth] = e;
     Reader {
@@ -117,15 +63,15 @@ fn push(stack: &mut [u32], depth: usize, e: u32) -> Reader
 
 // A sign where an operand is to begin.
 fn begin(sign: Sign, stack: &mut [u32], depth: usize, out: &mut [u32], index: &mut [u16]) -> Reader
-    requires { ⌜ numbers.Room (now stack) (state (now out) (now index)) depth 1 ⌝ }
-    requires { ⌜ numbers.Kinded sign ⌝ }
+    requires { ⌜ settled.Room (now stack) (state (now out) (now index)) depth 1 ⌝ }
+    requires { ⌜ signed.Kinded sign ⌝ }
     ensures { λ r. ⌜ numbers.Makes
         r
         (now (stack .exit))
         (state (now (out .exit)) (now (index .exit)))
         (numbers.beginWords
         sign
-        (numbers.topFirst (now (stack .entry)) depth)
+        (settled.topFirst (now (stack .entry)) depth)
         (written (state (now (out .entry)) (now (index .entry))))) ⌝ }
 {
     match sign {
@@ -158,8 +104,8 @@ fn begin(sign: Sign, stack: &mut [u32], depth: usize, out: &mut [u32], index: &m
 // A two-sided operator after an operand, which must be the first in its bracket.
 fn join(kind: u32, left: u32, n: usize, stack: &mut [u32], depth: usize) -> Reader
     requires { ⌜ (kind < 16) × (n ≤ 1025) × (depth ≤ length (now stack)) ⌝ }
-    ensures { λ r. ⌜ ((t : List ℕ) → numbers.words (r .left) (r .turn) (numbers.topFirst (now (stack .exit)) (r .depth)) t
-        ≡ numbers.joinWords kind left n (numbers.topFirst (now (stack .entry)) depth) t)
+    ensures { λ r. ⌜ ((t : List ℕ) → numbers.words (r .left) (r .turn) (settled.topFirst (now (stack .exit)) (r .depth)) t
+        ≡ numbers.joinWords kind left n (settled.topFirst (now (stack .entry)) depth) t)
         × numbers.Fit (r .turn) ⌝ }
 {
     if depth == 0 {
@@ -179,7 +125,7 @@ fn join(kind: u32, left: u32, n: usize, stack: &mut [u32], depth: usize) -> Read
 
 // A closing bracket after an operand, which must be the second in its bracket.
 fn close(n: usize, stack: &[u32], depth: usize, out: &mut [u32], index: &mut [u16]) -> Reader
-    requires { ⌜ numbers.Room (now stack) (state (now out) (now index)) depth 0 ⌝ }
+    requires { ⌜ settled.Room (now stack) (state (now out) (now index)) depth 0 ⌝ }
     requires { ⌜ n ≤ 1025 ⌝ }
     ensures { λ r. ⌜ numbers.Makes
         r
@@ -187,7 +133,7 @@ fn close(n: usize, stack: &[u32], depth: usize, out: &mut [u32], index: &mut [u1
         (state (now (out .exit)) (now (index .exit)))
         (numbers.closeWords
         n
-        (numbers.topFirst (now (stack .entry)) depth)
+        (settled.topFirst (now (stack .entry)) depth)
         (written (state (now (out .entry)) (now (index .entry))))) ⌝ }
 {
     if depth == 0 {
@@ -219,8 +165,8 @@ fn follow(
     out: &mut [u32],
     index: &mut [u16],
 ) -> Reader
-    requires { ⌜ numbers.Room (now stack) (state (now out) (now index)) depth 0 ⌝ }
-    requires { ⌜ numbers.Kinded sign × (n ≤ 1025) ⌝ }
+    requires { ⌜ settled.Room (now stack) (state (now out) (now index)) depth 0 ⌝ }
+    requires { ⌜ signed.Kinded sign × (n ≤ 1025) ⌝ }
     ensures { λ r. ⌜ numbers.Makes
         r
         (now (stack .exit))
@@ -228,7 +174,7 @@ fn follow(
         (numbers.followWords
         sign
         n
-        (numbers.topFirst (now (stack .entry)) depth)
+        (settled.topFirst (now (stack .entry)) depth)
         (written (state (now (out .entry)) (now (index .entry))))) ⌝ }
 {
     match sign {
@@ -277,7 +223,7 @@ fn letter(
     out: &mut [u32],
     index: &mut [u16],
 ) -> Reader
-    requires { ⌜ numbers.Room (now stack) (state (now out) (now index)) depth 1 ⌝ }
+    requires { ⌜ settled.Room (now stack) (state (now out) (now index)) depth 1 ⌝ }
     requires { ⌜ n ≤ 32 ⌝ }
     ensures { λ r. ⌜ numbers.Makes
         r
@@ -286,7 +232,7 @@ fn letter(
         (numbers.letterWords
         n
         b
-        (numbers.topFirst (now (stack .entry)) depth)
+        (settled.topFirst (now (stack .entry)) depth)
         (written (state (now (out .entry)) (now (index .entry))))) ⌝ }
 {
     if is_digit(b) {
@@ -297,12 +243,12 @@ fn letter(
     }
     let w = word::pack(3, 0, n as usize);
     let o = end(&*stack, depth, &mut *out, &mut *index, w);
-    follow(sign::sign_of(b), o.number, stack, o.depth, out, index)
+    follow(sign_of(b), o.number, stack, o.depth, out, index)
 }
 
 // One byte: of a symbol that lacks some, or by what may come next.
 pub fn step(r: Reader, stack: &mut [u32], out: &mut [u32], index: &mut [u16], b: u8) -> Reader
-    requires { ⌜ numbers.Room (now stack) (state (now out) (now index)) (r .depth) 1 ⌝ }
+    requires { ⌜ settled.Room (now stack) (state (now out) (now index)) (r .depth) 1 ⌝ }
     requires { ⌜ numbers.Fit (r .turn) ⌝ }
     ensures { λ q. ⌜ numbers.Makes
         q
@@ -326,9 +272,9 @@ pub fn step(r: Reader, stack: &mut [u32], out: &mut [u32], index: &mut [u16], b:
         };
     }
     match turn {
-        Turn::Operand => begin(sign::sign_of(b), stack, depth, out, index),
+        Turn::Operand => begin(sign_of(b), stack, depth, out, index),
         Turn::Letter(n) => letter(n, b, stack, depth, out, index),
-        Turn::Ended(n) => follow(sign::sign_of(b), n, stack, depth, out, index),
+        Turn::Ended(n) => follow(sign_of(b), n, stack, depth, out, index),
         Turn::Stuck => stuck(depth),
     }
 }

@@ -9,15 +9,15 @@ use lib.ListN.{length, getD, take, length-append}
 use lib.Seq.{getD-take, length-take-le}
 use lib.Dec.{eqb}
 use borrow.Author.Tests.{ltb-false, leb-false, eqb-true, eqb-false, le-ltb, lt-leb, ne-eqb, eq-eqb, not-false}
-use Rattle.table.specs.declared.refusal.Refusal.{Refusal}
-use Rattle.table.specs.declared.refusal.Outcome.the-variants.{Accepted, Refused}
-use Rattle.table.specs.Refusals.{first, numberOf}
+use Rattle.refusals.specs.declared.Refusal.{Refusal}
+use Rattle.refusals.specs.declared.Outcome.the-variants.{Accepted, Refused}
+use Rattle.refusals.specs.Refusals.{first, numberOf}
 use Rattle.logic.specs.Formula.{const}
 use Rattle.table.specs.Node.{kind, left, right, shape}
 use Rattle.table.specs.Table.{formulaOf, formulaBy, formulas}
 use Rattle.table.specs.Checks.{isBlank, isOperand, isProposition, holdsLeft, holdsRight, occurs, uses, used, wordChecks, wordsChecks, useChecks, tableChecks, checked}
 use Rattle.table.proofs.Formulas.{formula-of-word}
-use Rattle.table.proofs.First.{Passed, first-passed, passed-first, first-append-both, AllRefusals, all-refusals-append, first-refusal}
+use Rattle.refusals.proofs.First.{Passed, first-passed, passed-first, first-append-both, AllRefusals, all-refusals-append, first-refusal}
 
 -- word number n, after the earlier words: its kind, its fields by what they hold, and that it is new
 pub record WellFormedWord (plainOnly : Bool) (earlier : List ℕ) (n w : ℕ) : Type 0 where

@@ -10,6 +10,7 @@ use lib.ListN.{length, getD}
 use lib.Dec.{T, eqb, eqb→eq}
 use lib.Count.{ones, onesIn}
 use Rattle.logic.specs.Formula.{same}
+use Rattle.logic.specs.Bit.{bit}
 use Rattle.logic.specs.Lasso.{word, place, letterIn}
 use Rattle.logic.specs.ClassByte.{classByte}
 use Rattle.logic.specs.NegationNormalForm as negation
@@ -19,9 +20,9 @@ use Rattle.logic.specs.Truth.{truth, sweep}
 use Rattle.logic.proofs.Tests.{T-and, T-beq, allPass, pass-at}
 use Rattle.logic.proofs.Lasso.Truth.{truth-holds}
 use Rattle.table.specs.Node.{kind, left, right, pack, shape}
-use Rattle.table.specs.declared.refusal.Outcome.{Outcome}
-use Rattle.table.specs.declared.refusal.Outcome.the-variants.{Accepted, Refused}
-use Rattle.table.specs.Refusals.{numberOf, placeOf}
+use Rattle.refusals.specs.declared.Outcome.{Outcome}
+use Rattle.refusals.specs.declared.Outcome.the-variants.{Accepted, Refused}
+use Rattle.refusals.specs.Refusals.{numberOf, placeOf}
 use Rattle.table.specs.Table.{formulaOf, wordFormula, formulasAfter, formulas, rule}
 use Rattle.table.specs.Checks.{occurs, wordChecks, wordsChecks, uses, used, useChecks, tableChecks, checked}
 use Rattle.table.specs.Numbering.{findFrom, find, put, build, tableOf}
@@ -78,7 +79,7 @@ test-right (class t b) h = eqb→eq (classByte (rule t)) b h
 test-right (judged t r bs) h = λ i l. Iff·trans (Iff·symm (truth-holds r (rule t) i)) (rw zero-add at (match-at (truth r (rule t)) 0 bs h i l))
 
 all-pass : T (allPass test starred)
-unfolding allPass test sameList isRefusal matches normalTable plainTable fixpoints rule formulas formulasAfter formulaOf wordFormula kind left right pack shape tableOf build put find findFrom normalForm choices choicesOf part chosen leastOf greatestOf steady recurring opening same ones onesIn negation.plain classByte checked tableChecks wordsChecks wordChecks useChecks uses used occurs truth sweep word place letterIn
+unfolding allPass test sameList isRefusal matches normalTable plainTable fixpoints rule formulas formulasAfter formulaOf wordFormula kind left right pack shape tableOf build put find findFrom normalForm choices choicesOf part chosen leastOf greatestOf steady recurring opening same ones onesIn negation.plain classByte checked tableChecks wordsChecks wordChecks useChecks uses used occurs truth sweep word place letterIn bit
 all-pass = tt
 
 -- every starred case holds

@@ -9,20 +9,20 @@ use lib.ListN.{length, take, drop, replicate}
 use lib.Dec.{eqb, leb}
 use lib.Seq.{take-append-seam}
 use borrow.Author.Tests.{ne-eqb, leb-true, not-false}
-use Rattle.table.specs.declared.refusal.Refusal.{Refusal}
-use Rattle.table.specs.declared.refusal.Refusal.the-variants.{ResultTooShort}
-use Rattle.table.specs.declared.refusal.Outcome.{Outcome}
-use Rattle.table.specs.declared.refusal.Outcome.the-variants as outcome
+use Rattle.refusals.specs.declared.Refusal.{Refusal}
+use Rattle.refusals.specs.declared.Refusal.the-variants.{ResultTooShort}
+use Rattle.refusals.specs.declared.Outcome.{Outcome}
+use Rattle.refusals.specs.declared.Outcome.the-variants as outcome
 use Rattle.table.specs.declared.answer.Answer.{Answer}
 use Rattle.table.specs.declared.answer.Answer.the-variants.{Made, Refused}
 use Rattle.table.specs.declared.limits.Limits.{Limits}
-use Rattle.table.specs.Refusals.{Check, first, numberOf}
+use Rattle.refusals.specs.Refusals.{Check, first, numberOf}
 use Rattle.table.specs.Limits.{plainLimit}
 use Rattle.table.specs.Checks.{tableChecks, checked}
 use Rattle.table.specs.Numbering.{room, fits}
 use Rattle.table.specs.StepChecks.{isFixpointWord, fixpointChecks, resultChecks}
 use Rattle.table.specs.Frame.{Step, outcomeOf, answerBy, answerOf, resultBy, resultOf, answerNumber, classStep, plainStep, normalStep, dialectStep}
-use Rattle.table.proofs.First.{first-append-accepted, first-append-refused, first-append-both, AllRefusals, first-refusal}
+use Rattle.refusals.proofs.First.{first-append-accepted, first-append-refused, first-append-both, AllRefusals, first-refusal}
 use Rattle.table.proofs.Accepted.{table-refusal}
 
 -- no check before the last refuses for length

@@ -10,15 +10,15 @@ use borrow.Author.Tests.{ltb-false, le-ltb}
 use Rattle.logic.specs.Formula.{Formula}
 use Rattle.logic.specs.Letters.{Letters}
 use Rattle.logic.specs.Driven.{Driven}
-use Rattle.table.specs.declared.refusal.Refusal.{Refusal}
-use Rattle.table.specs.declared.refusal.Refusal.the-variants.{LetterNotDriven}
-use Rattle.table.specs.declared.refusal.Outcome.the-variants.{Accepted, Refused}
-use Rattle.table.specs.Refusals.{first, decideBy}
+use Rattle.refusals.specs.declared.Refusal.{Refusal}
+use Rattle.refusals.specs.declared.Refusal.the-variants.{LetterNotDriven}
+use Rattle.refusals.specs.declared.Outcome.the-variants.{Accepted, Refused}
+use Rattle.refusals.specs.Refusals.{first, decideBy}
 use Rattle.table.specs.Node.{Shape, none, constant, letter, unary, binary, kind, left, right, shape, leftField, rightField}
 use Rattle.table.specs.Table.{formulas, formulaOf, formulaBy}
 use Rattle.table.specs.Checks.{isOperand, isProposition, holdsRight}
 use Rattle.table.specs.StepChecks.{isUndriven, letterChecks}
-use Rattle.table.proofs.First.{first-passed, passed-first}
+use Rattle.refusals.proofs.First.{first-passed, passed-first}
 use Rattle.table.proofs.Accepted.{WellFormed, accepted-formula, and-false, and-false-second}
 
 -- ---- from words to formulas

@@ -1,5 +1,4 @@
 -- Laws of the definitions of rule tables, a file a subject.
-pub mod First
 pub mod Fields
 pub mod Shapes
 pub mod KindRanges

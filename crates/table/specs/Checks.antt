@@ -4,9 +4,9 @@ use mathlib.Core.Bool.{Bool, true, false, not, _&&_, _||_}
 use mathlib.Core.List.{List, [], _∷_, _++_}
 use lib.ListN.{length}
 use lib.Dec.{ltb, leb, eqb}
-use Rattle.table.specs.declared.refusal.Refusal.the-variants.{NoWord, TooManyWords, KindZero, NotPlain, OperandZero, OperandNotEarlier, LetterOutOfRange, FieldNotZero, Repeated, Unused}
-use Rattle.table.specs.declared.refusal.Outcome.{Outcome}
-use Rattle.table.specs.Refusals.{Check, _⇒_, first}
+use Rattle.refusals.specs.declared.Refusal.the-variants.{NoWord, TooManyWords, KindZero, NotPlain, OperandZero, OperandNotEarlier, LetterOutOfRange, FieldNotZero, Repeated, Unused}
+use Rattle.refusals.specs.declared.Outcome.{Outcome}
+use Rattle.refusals.specs.Refusals.{Check, _⇒_, first}
 use Rattle.table.specs.Node.{Field, blank, proposition, operand, kind, left, right, shape, leftField, rightField}
 
 abbrev pub isBlank : Field → Bool

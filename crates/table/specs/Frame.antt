@@ -4,13 +4,13 @@ use mathlib.Core.Bool.{true, false, cond}
 use mathlib.Core.List.{List, _++_}
 use lib.ListN.{length, drop, replicate}
 use lib.Dec.{eqb}
-use Rattle.table.specs.declared.refusal.Report.{Report}
-use Rattle.table.specs.declared.refusal.Outcome.{Outcome}
-use Rattle.table.specs.declared.refusal.Outcome.the-variants as outcome
+use Rattle.refusals.specs.declared.Report.{Report}
+use Rattle.refusals.specs.declared.Outcome.{Outcome}
+use Rattle.refusals.specs.declared.Outcome.the-variants as outcome
 use Rattle.table.specs.declared.answer.Answer.{Answer}
 use Rattle.table.specs.declared.answer.Answer.the-variants.{Made, Refused}
 use Rattle.table.specs.declared.limits.Limits.{Limits}
-use Rattle.table.specs.Refusals.{Check, first, reportOf, outcomeReport, numberOf}
+use Rattle.refusals.specs.Refusals.{Check, first, reportOf, outcomeReport, numberOf}
 use Rattle.table.specs.Limits.{plainLimit, mostWords}
 use Rattle.table.specs.Checks.{tableChecks}
 use Rattle.table.specs.StepChecks.{fixpointChecks, resultChecks}

@@ -1,5 +1,4 @@
--- The definitions of rule tables: their words, what they mean, what refuses them, and how a form is written as one.
-pub mod Refusals
+-- The definitions of rule tables: their words, what they mean, what they are checked for, and how a form is written as one.
 pub mod Node
 pub mod Table
 pub mod Checks

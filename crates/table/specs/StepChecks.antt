@@ -4,8 +4,8 @@ use Prim.Native.Nat.{ℕ, zero, suc, _%_}
 use mathlib.Core.Bool.{Bool, not, _&&_, cond}
 use mathlib.Core.List.{List, [], _∷_}
 use lib.Dec.{ltb, leb, eqb}
-use Rattle.table.specs.declared.refusal.Refusal.the-variants.{TooManyFixpoints, ResultTooShort, NotWords, LetterNotDriven, TooManyDriven}
-use Rattle.table.specs.Refusals.{Check, _⇒_}
+use Rattle.refusals.specs.declared.Refusal.the-variants.{TooManyFixpoints, ResultTooShort, NotWords, LetterNotDriven, TooManyDriven}
+use Rattle.refusals.specs.Refusals.{Check, _⇒_}
 use Rattle.table.specs.Node.{kind, right}
 use Rattle.table.specs.Checks.{isProposition, holdsRight}
 use Rattle.table.specs.Numbering.{fits}

@@ -1,7 +1,6 @@
 // What a step that makes a table answers: how many words it made, or why it made none.
-use crate::refusal;
-use crate::refusal::Refusal;
-use crate::refusal::Report;
+use refusals::Refusal;
+use refusals::Report;
 ghost use mathlib.Core.Path.{_≡_};
 ghost use Rattle.table.specs.Frame.{answerReport, answerWords};
 
@@ -16,7 +15,7 @@ pub fn report_of(a: Answer) -> Report
 {
     match a {
         Answer::Made(_) => Report(0, 0),
-        Answer::Refused(r) => refusal::report_of(r),
+        Answer::Refused(r) => refusals::report_of(r),
     }
 }
 

@@ -10,16 +10,16 @@ use lib.Dec.{ltb}
 use borrow.Author.Tests.{lt-ltb, le-ltb}
 use Rattle.logic.specs.Formula.{Formula}
 use Rattle.logic.proofs.Numbers.{getD-zeros}
-use Rattle.table.specs.declared.refusal.Refusal.{Refusal}
-use Rattle.table.specs.declared.refusal.Refusal.the-variants.{TooManyWords, ResultTooShort, NotGrammar, TextTooLong}
-use Rattle.table.specs.declared.refusal.Outcome.the-variants as outcome
+use Rattle.refusals.specs.declared.Refusal.{Refusal}
+use Rattle.refusals.specs.declared.Refusal.the-variants.{TooManyWords, ResultTooShort, NotGrammar, TextTooLong}
+use Rattle.refusals.specs.declared.Outcome.the-variants as outcome
 use Rattle.table.specs.declared.answer.Answer.the-variants.{Made, Refused}
 use Rattle.table.specs.declared.limits.Limits.{Limits}
 use Rattle.table.specs.Limits.{desk}
-use Rattle.table.specs.Refusals.{first, decideBy, _⇒_, numberOf}
+use Rattle.refusals.specs.Refusals.{first, decideBy, _⇒_, numberOf}
 use Rattle.table.specs.Numbering.{tableOf, room, fits}
 use Rattle.table.specs.Frame.{Step, answerOf, resultOf}
-use Rattle.table.proofs.First.{AllRefusals, first-refusal}
+use Rattle.refusals.proofs.First.{AllRefusals, first-refusal}
 use Rattle.table.proofs.Frame.{Early, refused-answer, refused-result, too-long-answer, too-long-result, made-answer, made-result}
 use Rattle.placing.specs.State as draft
 use Rattle.placing.proofs.Putting.{written-length, numbered-none, fits-true, fits-false}

@@ -18,10 +18,11 @@ use Rattle.scanning.specs.declared.reader.Turn.{Turn}
 use Rattle.scanning.specs.declared.reader.Turn.the-variants as turns
 use Rattle.scanning.specs.declared.reader.Reader.{Reader}
 use Rattle.grammar.specs.Reader.{Open, waiting, bracket, joined, Config, operand, ended, stuck, settle, Mark, State, inside, lettered, dead, going, alive, ofLetter, begin, markOf, step, run, start, accepted, final, readingOf, departureFrom, departureOf}
-use Rattle.scanning.specs.Numbers.{Words, words, endedWords, stepWords, viewed, topFirst, size, Fit, Room, Makes, isStuck, isEnded}
+use Rattle.settling.specs.Settled.{topFirst, Room}
+use Rattle.scanning.specs.Numbers.{Words, words, endedWords, stepWords, viewed, size, Fit, Makes, isStuck, isEnded}
 use Rattle.text.specs.Text.{Fresh, Parsed}
 use Rattle.grammar.proofs.Complete.{dead-none}
-use Rattle.scanning.proofs.Settling.{top-length}
+use Rattle.settling.proofs.Settling.{top-length}
 use Rattle.scanning.proofs.Sizes.{step-size}
 use Rattle.text.proofs.Imaging.{openStack, openTable, endedImage, ConfigImage, Image, Bytes, step-image}
 

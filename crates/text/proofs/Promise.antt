@@ -10,8 +10,8 @@ use mathlib.Core.Option.{Option, none, some}
 use lib.ListN.{length, drop, replicate}
 use Rattle.logic.specs.Formula.{Formula}
 use Rattle.logic.proofs.Numbers.{lt-or-le}
-use Rattle.table.specs.declared.refusal.Refusal.the-variants.{TooManyWords, ResultTooShort, NotGrammar, TextTooLong}
-use Rattle.table.specs.declared.refusal.Outcome.the-variants.{Accepted}
+use Rattle.refusals.specs.declared.Refusal.the-variants.{TooManyWords, ResultTooShort, NotGrammar, TextTooLong}
+use Rattle.refusals.specs.declared.Outcome.the-variants.{Accepted}
 use Rattle.table.specs.declared.answer.Answer.{Answer}
 use Rattle.table.specs.declared.answer.Answer.the-variants.{Made, Refused}
 use Rattle.table.specs.Limits.{desk}

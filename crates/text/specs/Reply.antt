@@ -3,7 +3,7 @@ use Prim.Native.Nat.{ℕ, _≤_, _<_}
 use mathlib.Core.List.{List, _++_}
 use lib.ListN.{length, drop, replicate}
 use Rattle.logic.specs.Formula.{Formula}
-use Rattle.table.specs.declared.refusal.Refusal.the-variants.{TooManyWords, ResultTooShort, NotGrammar, TextTooLong}
+use Rattle.refusals.specs.declared.Refusal.the-variants.{TooManyWords, ResultTooShort, NotGrammar, TextTooLong}
 use Rattle.table.specs.declared.answer.Answer.{Answer}
 use Rattle.table.specs.declared.answer.Answer.the-variants.{Made, Refused}
 use Rattle.table.specs.Numbering.{tableOf}

@@ -6,9 +6,9 @@ use mathlib.Core.Option.{Option, none, some}
 use lib.ListN.{length}
 use lib.Dec.{ltb}
 use Rattle.logic.specs.Formula.{Formula}
-use Rattle.table.specs.declared.refusal.Refusal.the-variants.{TooManyWords, NotGrammar, TextTooLong}
+use Rattle.refusals.specs.declared.Refusal.the-variants.{TooManyWords, NotGrammar, TextTooLong}
 use Rattle.table.specs.declared.limits.Limits.{Limits}
-use Rattle.table.specs.Refusals.{_⇒_}
+use Rattle.refusals.specs.Refusals.{_⇒_}
 use Rattle.table.specs.Numbering.{tableOf}
 use Rattle.table.specs.Frame.{Step}
 use Rattle.placing.specs.State as draft

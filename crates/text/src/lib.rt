@@ -1,10 +1,10 @@
 // Rules typed as text: a text goes in, and its rule's table comes out at the front of the result.
 use placing::put;
+use refusals::Refusal;
 use scanning::reader;
 use scanning::reader::Reader;
 use scanning::reader::Turn;
 use table::answer::Answer;
-use table::refusal::Refusal;
 ghost use mathlib.Core.Path.{_≡_};
 ghost use mathlib.Core.List.{_++_};
 ghost use Prim.Native.Nat.{_≤_};

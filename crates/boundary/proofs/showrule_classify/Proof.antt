@@ -1,5 +1,5 @@
 use mathlib.Core.Path.{ap, _∙_}
-use Rattle.table.specs.Refusals.{outcomeNumber, outcomePlace}
+use Rattle.refusals.specs.Refusals.{outcomeNumber, outcomePlace}
 use borrow.Author.Needs.{needs}
 use Rattle.boundary.proofs.showrule_classify.Statement.{statement}
 use Rattle.boundary.proofs.showrule_classify.Tie as tie

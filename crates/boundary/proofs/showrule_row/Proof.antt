@@ -2,8 +2,8 @@
 use borrow.Author.Needs.{needs}
 use mathlib.Core.Path.{sym, ap, _∙_}
 use native.Mathlib.Omega.{arith}
-use Rattle.table.specs.declared.refusal.Report.{Report}
-use Rattle.evaluation.proofs.WordRow.{accepted-fillable}
+use Rattle.refusals.specs.declared.Report.{Report}
+use Rattle.evaluation.proofs.Accepted.{accepted-fillable}
 use Rattle.evaluation.proofs.LastRow.{some-word, last-small}
 use Rattle.boundary.proofs.Replied.{row-accepted, row-refused, scratch-told}
 use Rattle.boundary.proofs.showrule_row.Statement.{statement}

@@ -10,9 +10,9 @@ use Rattle.dialect.proofs.Step.{table-few, lent-length, written-part}
 use Rattle.dialect.proofs.write.Reads as write
 use Rattle.dialect.proofs.write.Kinds as write-kinds
 use Rattle.dialect.proofs.+write.Lts-write as write-lts
-use Rattle.dialect.proofs.rooms.of_16383.Reads as of-16383-reads
-use Rattle.dialect.proofs.rooms.of_512.Reads as of-512-reads
-use Rattle.dialect.proofs.rooms.of_64.Reads as of-64-reads
+use Rattle.dialect_rooms.proofs.of_16383.Reads as of-16383-reads
+use Rattle.dialect_rooms.proofs.of_512.Reads as of-512-reads
+use Rattle.dialect_rooms.proofs.of_64.Reads as of-64-reads
 use Rattle.dialect.proofs.+write.{statement}
 use Rattle.dialect.proofs.+write.Tie.{close}
 
@@ -49,7 +49,7 @@ pub +write-spec : {M : Type 1} → statement M
       c .before .before .before .before .pre .1,
     ))
     (λ c. search needs)
-    (λ c. written-part (c .before .before .before .before .before .before .before .pre .1) refl (c .before .before .before .before .if1 .taken) (c .before .before .write .ensures))
+    (λ c. written-part _ _ (c .before .before .before .before .before .before .before .pre .1) (c .before .before .before .before .if1 .taken) (c .before .before .write .ensures))
     -- the rooms
     (λ c κs. record { accepted = c .before .before .before .before .before .pre .1; few = omega arith; lent = omega arith })
     (λ c. search needs)

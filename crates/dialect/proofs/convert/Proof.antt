@@ -3,7 +3,7 @@ use mathlib.Core.Path.{_≡_, sym, _∙_}
 use mathlib.Core.Bool.{true}
 use denote.Ref.{now}
 use borrow.Author.Needs.{needs}
-use Rattle.table.specs.declared.refusal.Outcome.the-variants.{Accepted}
+use Rattle.refusals.specs.declared.Outcome.the-variants.{Accepted}
 use Rattle.table.specs.Checks.{checked}
 use Rattle.dialect.proofs.Step.{refused, too-long, fitting}
 use Rattle.dialect.proofs.convert.Statement.{statement}
@@ -23,19 +23,21 @@ returns : tie.Need-returns
 returns c =
     let wrote = c .before .before .before .before .before .before .before in
     let told = wrote .before .before in
-    let r = too-long (now (start told .args .table)) (now (start told .args .result)) _ _ (accepted told) (wrote .write .ensures) (wrote .write .kept .1 .0) (c .before .before .before .before .if1 .taken) in
-    (r .0, c .before .before .clear .ensures ∙ r .1)
+    let r = too-long (now (start told .args .table)) (now (start told .args .result)) (accepted told) (wrote .write .ensures) (wrote .write .kept .1 .0) (c .before .before .before .before .if1 .taken) in
+    (r .reply, c .before .before .clear .ensures ∙ r .slice)
 
 returns-2 : tie.Need-returns-2
 returns-2 c =
     let start = c .before .before .before .before .before .before in
-    refused (now (start .args .table)) (now (start .args .result)) (c .before .r .given .0 .0) (sym (c .before .before .before .check .ensures) ∙ c .before .r .given .1)
+    let r = refused (now (start .args .table)) (now (start .args .result)) (c .before .r .given .0 .0) (sym (c .before .before .before .check .ensures) ∙ c .before .r .given .1) in
+    (r .reply, r .slice)
 
 returns-3 : tie.Need-returns-3
 returns-3 c =
     let wrote = c .before .before .before in
     let told = wrote .before .before in
-    fitting (now (start told .args .table)) (now (start told .args .result)) _ _ (accepted told) (wrote .write .ensures) (c .if1 .left)
+    let r = fitting (now (start told .args .table)) (now (start told .args .result)) (accepted told) (wrote .write .ensures) (c .if1 .left) in
+    (r .reply, r .slice)
 
 pub convert-spec : {M : Type 1} → statement M
 convert-spec =

@@ -2,7 +2,7 @@
 use borrow.Author.Needs.{needs}
 use mathlib.Core.Path.{refl, sym, _∙_}
 use Rattle.evaluation.specs.Judging.{rowOutcome, scratchAfter}
-use Rattle.evaluation.proofs.WordRow.{accepted-fillable}
+use Rattle.evaluation.proofs.Accepted.{accepted-fillable}
 use Rattle.judge_checks.proofs.Outcomes.{judgeable}
 use Rattle.evaluation.proofs.fill.Statement.{statement}
 use Rattle.evaluation.proofs.fill.Tie as tie

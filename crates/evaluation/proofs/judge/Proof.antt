@@ -2,7 +2,7 @@
 use borrow.Author.Needs.{needs}
 use mathlib.Core.Path.{sym, _∙_}
 use Rattle.evaluation.proofs.LastRow.{judge-rows, refused-reply, refused-scratch, accepted-scratch}
-use Rattle.evaluation.proofs.WordRow.{accepted-fillable}
+use Rattle.evaluation.proofs.Accepted.{accepted-fillable}
 use Rattle.judge_checks.proofs.Outcomes.{judgeable, judge-both}
 use Rattle.evaluation.specs.Judging.{judgeOutcome}
 use Rattle.evaluation.proofs.judge.Statement.{statement}

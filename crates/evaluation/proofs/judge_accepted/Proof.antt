@@ -4,8 +4,8 @@ use borrow.Author.Needs.{needs}
 use lib.ListN.{length}
 use native.Mathlib.Omega.{arith}
 use Rattle.evaluation.proofs.LastRow.{judge-few, some-word, last-small, last-end, last-for, last-row, accepted-reply}
-use Rattle.evaluation.proofs.WordRow.{fillable-length}
-use Rattle.evaluation.specs.Judging.{Fillable}
+use Rattle.row_filling.proofs.WordRow.{fillable-length}
+use Rattle.row_filling.specs.Filling.{Fillable}
 use Rattle.evaluation.proofs.judge_accepted.Statement.{statement}
 use Rattle.evaluation.proofs.judge_accepted.Tie as tie
 

@@ -2,7 +2,7 @@
 use borrow.Author.Needs.{needs}
 use mathlib.Core.Path.{ap, _∙_}
 use Rattle.evaluation.proofs.LastRow.{judged-is}
-use Rattle.judge_checks.specs.Tallies.{tallyAfter}
+use Rattle.tally.specs.Tallies.{tallyAfter}
 use Rattle.evaluation.proofs.read_answer.Statement.{statement}
 use Rattle.evaluation.proofs.read_answer.Tie as tie
 

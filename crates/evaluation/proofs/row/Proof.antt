@@ -5,11 +5,13 @@ use lib.ListN.{length}
 use mathlib.Core.Path.{_≡_, sym, ap, _∙_}
 use native.Mathlib.Omega.{arith}
 use Rattle.evaluation.proofs.LastRow.{some-word, last-small, last-end, last-row, accepted-scratch, accepted-part, refused-part, accepted-at, refused-at}
-use Rattle.evaluation.proofs.WordRow.{accepted-facts, accepted-fillable, fillable-length}
-use Rattle.evaluation.specs.Judging.{rowOutcome, Fillable}
-use Rattle.table.specs.declared.refusal.Report.{Report}
-use Rattle.table.specs.Refusals.{outcomeReport, outcomeNumber, outcomePlace}
-use Rattle.table.specs.declared.refusal.Outcome.the-variants.{Accepted}
+use Rattle.row_filling.proofs.WordRow.{fillable-length}
+use Rattle.evaluation.proofs.Accepted.{accepted-facts, accepted-fillable}
+use Rattle.row_filling.specs.Filling.{Fillable}
+use Rattle.evaluation.specs.Judging.{rowOutcome}
+use Rattle.refusals.specs.declared.Report.{Report}
+use Rattle.refusals.specs.Refusals.{outcomeReport, outcomeNumber, outcomePlace}
+use Rattle.refusals.specs.declared.Outcome.the-variants.{Accepted}
 use Rattle.evaluation.proofs.row.Statement.{statement}
 use Rattle.evaluation.proofs.row.Tie as tie
 

@@ -5,6 +5,7 @@ use mathlib.Core.Path.{ap}
 use lib.Bits.{and-mask}
 use lib.Dec.{eqb}
 use lib.ListN.{getD}
+use Rattle.logic.specs.Bit.{bit}
 use Rattle.fixpoints.proofs.chosen.Statement.{statement}
 use Rattle.fixpoints.proofs.chosen.Tie as tie
 
@@ -18,6 +19,7 @@ shr-result : tie.Need-shr-result
 shr-result c = c .before .pre .1
 
 returns : tie.Need-returns
+unfolding bit
 returns c = ap (λ (n : ℕ). eqb n 1) (and-mask (c .before .args .choice / 2 ^ getD (c .before .args .positions .now) (c .before .args .j) 0) 1)
 
 pub chosen-spec : {M : Type 1} → statement M

@@ -5,7 +5,7 @@ use lib.Seq.{length-take-le}
 use denote.Ref.{now}
 use borrow.Author.Needs.{needs}
 use Rattle.nnf.proofs.Step.{checked-by, refused, too-long, fitting}
-use Rattle.table.specs.declared.refusal.Outcome.the-variants.{Accepted}
+use Rattle.refusals.specs.declared.Outcome.the-variants.{Accepted}
 use Rattle.table.specs.Checks.{checked}
 use Rattle.nnf.proofs.plain_form_within.Statement.{statement}
 use Rattle.nnf.proofs.plain_form_within.Tie as tie
@@ -32,19 +32,21 @@ returns : tie.Need-returns
 returns c =
     let start = c .before .before .before .before .before .before .before .before .before .before .before .before .before .before .before .before in
     let wrote = c .before .before .before .before .before .before .before in
-    let r = too-long (start .args .limits) (now (start .args .table)) (now (start .args .result)) _ _ _ (start .pre) (accepted (wrote .before .before .before .before)) (wrote .before .before .lesser .ensures) (wrote .write .ensures) (wrote .write .kept .1 .0) (c .before .before .before .before .if1 .taken) in
-    (r .0, c .before .before .clear .ensures ∙ r .1)
+    let r = too-long (start .args .limits) (now (start .args .table)) (now (start .args .result)) (accepted (wrote .before .before .before .before)) (wrote .before .before .lesser .ensures) (wrote .write .ensures) (wrote .write .kept .1 .0) (c .before .before .before .before .if1 .taken) in
+    (r .reply, c .before .before .clear .ensures ∙ r .slice)
 
 returns-2 : tie.Need-returns-2
 returns-2 c =
     let start = c .before .before .before .before .before .before in
-    refused (start .args .limits) (now (start .args .table)) (now (start .args .result)) (c .before .r .given .0 .0) (checked-by (start .args .limits) (now (start .args .table)) (start .pre) (c .before .before .before .check .ensures) (c .before .r .given .1))
+    let r = refused (start .args .limits) (now (start .args .table)) (now (start .args .result)) (c .before .r .given .0 .0) (checked-by (start .args .limits) (now (start .args .table)) (start .pre) (c .before .before .before .check .ensures) (c .before .r .given .1)) in
+    (r .reply, r .slice)
 
 returns-3 : tie.Need-returns-3
 returns-3 c =
     let start = c .before .before .before .before .before .before .before .before .before .before .before .before in
     let wrote = c .before .before .before in
-    fitting (start .args .limits) (now (start .args .table)) (now (start .args .result)) _ _ _ (start .pre) (accepted (wrote .before .before .before .before)) (wrote .before .before .lesser .ensures) (wrote .write .ensures) (c .if1 .left)
+    let r = fitting (start .args .limits) (now (start .args .table)) (now (start .args .result)) (accepted (wrote .before .before .before .before)) (wrote .before .before .lesser .ensures) (wrote .write .ensures) (c .if1 .left) in
+    (r .reply, r .slice)
 
 pub plain-form-within-spec : {M : Type 1} → statement M
 plain-form-within-spec =

@@ -1,7 +1,12 @@
 use mathlib.Core.Path.{refl}
+use mathlib.Core.Bool.{true}
 use denote.Ref.{now}
 use borrow.Author.Needs.{needs}
-use Rattle.nnf.proofs.Step.{nothing-drafted, nothing-numbered, numberable, written-none, written-all}
+use Rattle.logic.specs.NegationNormalForm.{plain}
+use Rattle.table.specs.Steps.{plainTable}
+use Rattle.table.specs.Table.{rule}
+use Rattle.placing.proofs.Written.{written-none, written-all}
+use Rattle.nnf.proofs.Step.{nothing-drafted, nothing-numbered, numberable}
 use Rattle.nnf.proofs.write.Statement.{statement}
 use Rattle.nnf.proofs.write.Tie as tie
 
@@ -12,18 +17,20 @@ number-requires c κs =
     (nothing-numbered (start .pre), numberable (now (start .args .table)) (drafted .draft-rule .kept .1 .0) (drafted .draft-rule .ensures))
 
 returns : tie.Need-returns
+unfolding plainTable
 returns c =
     let numbered = c .before .before .before .before .before .before in
     let drafted = numbered .before .before .before .before .before .before .before in
-    written-none (now (drafted .before .before .before .before .args .table)) refl (numbered .number .ensures) (drafted .draft-rule .ensures) (c .if1 .taken)
+    let form = plain true (rule (now (drafted .before .before .before .before .args .table))) in
+    written-none form (numbered .number .ensures .placed form (drafted .draft-rule .ensures)) refl (c .if1 .taken)
 
 returns-2 : tie.Need-returns-2
+unfolding plainTable
 returns-2 c =
     let numbered = c .before .before .before .before .before .before .before .before in
     let drafted = numbered .before .before .before .before .before .before .before in
-    rw (c .count .ensures) (
-    written-all (now (drafted .before .before .before .before .args .table)) refl (numbered .number .ensures) (drafted .draft-rule .ensures) (c .before .before .if1 .left)
-    )
+    let form = plain true (rule (now (drafted .before .before .before .before .args .table))) in
+    rw (c .count .ensures) (written-all form (numbered .number .ensures .placed form (drafted .draft-rule .ensures)) refl (c .before .before .if1 .left))
 
 pub write-spec : {M : Type 1} → statement M
 write-spec =

@@ -1,5 +1,5 @@
 use native.Mathlib.Omega.{arith}
-use mathlib.Core.Path.{sym, ap, _∙_}
+use mathlib.Core.Path.{ap, _∙_}
 use borrow.Author.Needs.{needs}
 use Rattle.table.specs.declared.limits.Limits.{Limits}
 use Rattle.table.specs.Limits.{desk}
@@ -17,7 +17,7 @@ returns : tie.Need-returns
 returns c = let q = past-refused desk (c .before .before .before .before .before .before .before .before .before .args .table .now) (c .before .before .before .before .before .before .before .before .before .args .result .now) (table-at-desk _ (c .before .before .before .before .before .before .desk .ensures) (c .before .before .before .before .check .ensures) (c .before .before .enum-told .given .1)) (past-at-desk (c .before .before .before .before .before .before .desk .ensures) (c .before .past .ensures)) (c .if1 .taken) in (q .reply, q .slice)
 
 form-requires : tie.Need-form-requires
-form-requires c κs = all-passed desk (c .before .before .before .before .before .before .before .before .before .before .args .table .now) (c .before .before .before .before .before .before .before .before .before .before .args .result .now) (table-at-desk _ (c .before .before .before .before .before .before .before .desk .ensures) (c .before .before .before .before .before .check .ensures) (c .before .before .before .enum-told .given .1)) (past-at-desk (c .before .before .before .before .before .before .before .desk .ensures) (c .before .before .past .ensures)) (c .before .if1 .left) (omega arith) (omega arith)
+form-requires c κs = all-passed desk (c .before .before .before .before .before .before .before .before .before .before .args .table .now) (c .before .before .before .before .before .before .before .before .before .before .args .result .now) (table-at-desk _ (c .before .before .before .before .before .before .before .desk .ensures) (c .before .before .before .before .before .check .ensures) (c .before .before .before .enum-told .given .1)) (past-at-desk (c .before .before .before .before .before .before .before .desk .ensures) (c .before .before .past .ensures)) (c .before .if1 .left) (record { positioned = omega arith; few = omega arith; drafted = omega arith })
 
 returns-2 : tie.Need-returns-2
 returns-2 c =

@@ -6,8 +6,9 @@ use mathlib.Core.Bool.{true≢false}
 use lib.ListN.{length}
 use borrow.Author.Needs.{needs}
 use Rattle.placing.specs.State.{state, Numbered}
-use Rattle.scanning.specs.Numbers.{viewed, Fit, Room}
-use Rattle.scanning.proofs.Settling.{top-length}
+use Rattle.settling.specs.Settled.{Room}
+use Rattle.scanning.specs.Numbers.{viewed, Fit}
+use Rattle.settling.proofs.Settling.{top-length}
 use Rattle.text.proofs.Parsing.{Going, going-more, going-dead, going-read, going-early, going-room, fresh-going, departed, was-read}
 use Rattle.text.proofs.parse.Statement.{statement}
 use Rattle.text.proofs.parse.Tie as tie

@@ -5,8 +5,8 @@ use mathlib.Core.Path.{_≡_, refl, sym, _∙_}
 use lib.ListN.{length, getD, length-set}
 use borrow.Author.Needs.{needs}
 use Rattle.placing.specs.State.{state}
-use Rattle.draft.specs.Turn.{turnOf}
-use Rattle.draft.specs.declared.turn.Turn.the-variants.{Word}
+use Rattle.slots.specs.Turn.{turnOf}
+use Rattle.slots.specs.declared.turn.Turn.the-variants.{Word}
 use Rattle.placing.proofs.Placing.{placing-again}
 use Rattle.draft.proofs.Zeros.{zeros, zeros-set}
 use Rattle.draft.proofs.Going.{Going, going-start, going-push, going-full, going-done, going-pop, going-low, going-none, going-turnable, going-earlier, root-within}

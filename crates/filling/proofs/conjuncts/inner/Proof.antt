@@ -1,8 +1,7 @@
-use Prim.Native.Nat.{_<_, _*_, _+_}
 use native.Mathlib.Omega.{arith}
 use mathlib.Core.Path.{ap, _∙_}
 use borrow.Author.Needs.{needs}
-use Rattle.filling.specs.Slots.{finallySlot, globallySlot}
+use Rattle.rewriting.specs.Slots.{finallySlot, globallySlot}
 use Rattle.filling.proofs.conjuncts.inner.Statement.{statement}
 use Rattle.filling.proofs.conjuncts.inner.Tie as tie
 

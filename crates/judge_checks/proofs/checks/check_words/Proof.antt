@@ -2,7 +2,7 @@
 use borrow.Author.Needs.{needs}
 use mathlib.Core.Path.{sym, _∙_}
 use Rattle.table.specs.StepChecks.{letterChecks}
-use Rattle.table.proofs.First.{first-append-accepted, first-append-refused}
+use Rattle.refusals.proofs.First.{first-append-accepted, first-append-refused}
 use Rattle.judge_checks.proofs.checks.check_words.Statement.{statement}
 use Rattle.judge_checks.proofs.checks.check_words.Tie as tie
 

@@ -5,7 +5,7 @@ use mathlib.Core.Path.{_≡_, refl, sym, ap, _∙_}
 use native.Mathlib.Numerals.{add-one}
 use native.Mathlib.Omega.{arith}
 use lib.ListN.{length}
-use Rattle.table.specs.Refusals.{first}
+use Rattle.refusals.specs.Refusals.{first}
 use Rattle.table.specs.Checks.{useChecks}
 use Rattle.reading.proofs.Marking.{use-step, use-none}
 use Rattle.reading.proofs.uses.use_fault.Statement.{statement}

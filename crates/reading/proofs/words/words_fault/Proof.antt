@@ -6,7 +6,7 @@ use native.Mathlib.Omega.{arith}
 use lib.ListN.{length, take, drop, drop-of-length-le}
 use lib.Seq.{take-all}
 use borrow.Author.Needs.{needs}
-use Rattle.table.specs.Refusals.{first}
+use Rattle.refusals.specs.Refusals.{first}
 use Rattle.table.specs.Checks.{wordsChecks}
 use Rattle.reading.specs.Marks.{Kept}
 use Rattle.reading.proofs.First.{words-step, refused-kept}

@@ -1,12 +1,12 @@
 -- Bit k is what a shift by k leaves lowest.
 use mathlib.Core.Path.{refl}
-use Rattle.row_words.specs.Row as rows
+use Rattle.logic.specs.Bit.{bit}
 use borrow.Author.Needs.{needs}
 use Rattle.row_words.proofs.word.bit.Statement.{statement}
 use Rattle.row_words.proofs.word.bit.Tie as tie
 
 returns : tie.Need-returns
-unfolding rows.bit
+unfolding bit
 returns c = refl
 
 pub bit-spec : {M : Type 1} → statement M

@@ -1,5 +1,5 @@
 -- One law of a doubling, used six times.
-use Rattle.row_words.specs.Row.{bit}
+use Rattle.logic.specs.Bit.{bit}
 use Rattle.row_words.proofs.Sweep.{swept-one, doubling}
 use Rattle.row_words.proofs.Words.{pack-sweep}
 use Rattle.row_words.proofs.word.closed.Statement.{statement}

@@ -2,9 +2,11 @@
 use native.Mathlib.Omega.{arith}
 use mathlib.Core.Path.{_≡_, sym, ap, _∙_, subst}
 use Rattle.placing.specs.State.{state, written}
-use Rattle.scanning.specs.declared.sign.Sign.{Sign}
-use Rattle.scanning.specs.declared.sign.Sign.the-variants.{Blank, Constant, Letter, Prefix, Operator, Open, Close, Unknown}
-use Rattle.scanning.specs.Numbers.{Kinded, Words, beginWords, topFirst}
+use Rattle.signs.specs.declared.Sign.{Sign}
+use Rattle.signs.specs.declared.Sign.the-variants.{Blank, Constant, Letter, Prefix, Operator, Open, Close, Unknown}
+use Rattle.signs.specs.Signed.{Kinded}
+use Rattle.settling.specs.Settled.{topFirst}
+use Rattle.scanning.specs.Numbers.{Words, beginWords}
 use Rattle.scanning.proofs.Making.{stuck-makes, push-makes, end-makes}
 use borrow.Author.Needs.{needs}
 use Rattle.scanning.proofs.reader.begin.Statement.{statement}

@@ -3,7 +3,8 @@ use native.Mathlib.Omega.{arith}
 use mathlib.Core.Path.{sym, ap, _∙_}
 use Prim.Native.Nat.{ℕ}
 use Rattle.placing.specs.State.{state, written}
-use Rattle.scanning.specs.Numbers.{words, followEnded, topFirst}
+use Rattle.settling.specs.Settled.{topFirst}
+use Rattle.scanning.specs.Numbers.{words, followEnded}
 use Rattle.scanning.proofs.Making.{stuck-makes, sign-kinded, letter-digit, letter-none, letter-ended, digit-bounds}
 use borrow.Author.Needs.{needs}
 use Rattle.scanning.proofs.reader.letter.Statement.{statement}

@@ -2,7 +2,7 @@
 use native.Mathlib.Omega.{arith}
 use mathlib.Core.Path.{_≡_, sym, ap, _∙_, subst}
 use Rattle.placing.specs.State.{state}
-use Rattle.scanning.specs.declared.sign.Sign.{Sign}
+use Rattle.signs.specs.declared.Sign.{Sign}
 use Rattle.scanning.specs.declared.reader.Turn.{Turn}
 use Rattle.scanning.specs.declared.reader.Turn.the-variants as turns
 use Rattle.scanning.specs.Numbers.{Fit, Words, viewed, beginWords, followWords, turnWords, stepWords}

@@ -1,0 +1,3 @@
+-- The laws of a conversion while its draft is filled.
+pub mod Shapes
+pub mod Forms

@@ -1,0 +1,2 @@
+-- What the draft of a conversion is.
+pub mod Filling

@@ -1,0 +1,2 @@
+-- A conversion numbered in rooms of a size.
+pub mod Rooms

@@ -1,0 +1,2 @@
+-- What a conversion's table is written with.
+pub mod Rooms

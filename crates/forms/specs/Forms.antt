@@ -1,0 +1,60 @@
+-- The form as it is written to a slice, and what it is asked with.
+use Prim.Native.Nat.{ℕ, _+_, _*_, _^_, _≤_, _<_}
+use mathlib.Core.Path.{_≡_}
+use mathlib.Core.Bool.{true, false}
+use mathlib.Core.List.{List, _++_}
+use lib.ListN.{length, drop}
+use Rattle.refusals.specs.declared.Outcome.the-variants as outcome
+use Rattle.table.specs.declared.limits.Limits.{Limits}
+use Rattle.table.specs.Limits.{desk, plainLimit}
+use Rattle.table.specs.Checks.{checked}
+use Rattle.table.specs.Numbering.{room, fits}
+use Rattle.table.specs.Steps.{fixpoints, normalTable}
+use Rattle.fixpoints.specs.Positions.{Kept}
+use Rattle.filling.specs.Filled.{slotsFor, draftSize}
+
+-- the most words of a form of n words of which k are until-like
+abbrev pub mostWords : ℕ → ℕ → ℕ
+mostWords n k = 2 ^ k * (5 * n + 3 * k + 1) + 2
+
+-- the sizes of the local arrays: a position for each word of a plain table, and the slots of a short draft and of any
+abbrev pub positionsLength : ℕ
+positionsLength = plainLimit desk + 1
+
+abbrev pub shortSlots : ℕ
+shortSlots = 256
+
+abbrev pub mostSlots : ℕ
+mostSlots = 1024
+
+-- limits under which they are long enough
+pub record Limited (l : Limits) : Type 0 where
+  pub positioned : plainLimit l < positionsLength
+  pub few : l .fixpoints < 32
+  pub drafted : slotsFor (plainLimit l) (l .fixpoints) ≤ mostSlots
+
+-- an accepted plain table whose form can be made
+pub record Accepted (t : List ℕ) : Type 0 where
+  pub limit : ℕ
+  pub accepted : checked true limit t ≡ outcome.Accepted
+  pub short : limit < positionsLength
+  pub few : length (fixpoints t) < 32
+  pub drafted : draftSize t ≤ mostSlots
+
+-- with the positions of its until-like words
+pub record Positioned (t positions : List ℕ) (bits : ℕ) : Type 0 where
+  pub table : Accepted t
+  pub kept : Kept t positions (length t)
+  pub bits-are : bits ≡ length (fixpoints t)
+
+-- its drafts have at most so many slots, and its slice counts for at most so many words
+pub record Sized (t : List ℕ) (slots : ℕ) (out : List ℕ) (words : ℕ) : Type 0 where
+  pub few-slots : draftSize t ≤ slots
+  pub few-words : room (length out) ≤ words
+
+-- the form stands at the front of the slice, and r is the number of its words; 0: it does not fit
+pub record Formed (t out e : List ℕ) (r : ℕ) : Type 0 where
+  pub none : r ≡ 0 → fits (length (normalTable t)) (length out) ≡ false
+  pub fitting : 0 < r → fits (length (normalTable t)) (length out) ≡ true
+  pub count : 0 < r → r ≡ length (normalTable t)
+  pub front : 0 < r → e ≡ normalTable t ++ drop (length (normalTable t)) out

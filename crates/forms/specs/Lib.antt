@@ -1,0 +1,2 @@
+-- The form as it is written to a slice.
+pub mod Forms

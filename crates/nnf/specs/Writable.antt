@@ -1,0 +1,19 @@
+-- What a plain form's table is written with.
+use Prim.Native.Nat.{ℕ, _+_, _*_, _≤_}
+use mathlib.Core.Path.{_≡_}
+use mathlib.Core.Bool.{false}
+use mathlib.Core.List.{List}
+use lib.ListN.{length}
+use Rattle.refusals.specs.declared.Outcome.the-variants.{Accepted}
+use Rattle.table.specs.Checks.{checked}
+
+-- how many slots a draft has here: two for each of 64 written words, and the constants
+abbrev pub slots : ℕ
+slots = 130
+
+-- an accepted table whose forms have slots, and a slice of no more words than those
+pub record Writable (t out : List ℕ) : Type 0 where
+  pub limit : ℕ
+  pub accepted : checked false limit t ≡ Accepted
+  pub room : 2 * limit + 2 ≤ slots
+  pub few : length out ≤ slots

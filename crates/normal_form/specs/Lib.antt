@@ -1,3 +1,0 @@
--- What the normal-form step's promises cite.
-pub mod Growing
-pub mod Forms

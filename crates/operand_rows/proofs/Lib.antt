@@ -1,0 +1,2 @@
+-- A row as a part of the scratch.
+pub mod Parts

@@ -1,0 +1,2 @@
+-- What the row of a word is written from.
+pub mod Operands

@@ -1,0 +1,2 @@
+-- The kinds that stand for no operator.
+pub mod LeftOver

@@ -1,0 +1,2 @@
+-- What an operator stands for, and what its row holds.
+pub mod Looped

@@ -1,0 +1,2 @@
+// What is written to the row of a word.
+pub mod operator;

@@ -1,0 +1,2 @@
+-- A part, numbered from no numbers.
+pub mod Unnumbered

@@ -1,0 +1,2 @@
+-- What the promise about a part cites.
+pub mod Ready

@@ -1,0 +1,85 @@
+-- A formula's table written to a slice, or to a part of one, and how a step ends then.
+use Prim.Native.Nat.{ℕ, _≤_, _<_, min}
+use native.Mathlib.Omega.{arith}
+use mathlib.Core.Path.{_≡_, refl, sym, ap, _∙_}
+use mathlib.Core.Bool.{true, false}
+use mathlib.Core.List.{List, [], _++_, append-assoc}
+use lib.ListN.{length, take, drop, replicate, take-append-drop}
+use lib.Seq.{length-take-le, drop-append-le}
+use Rattle.logic.specs.Formula.{Formula}
+use Rattle.refusals.specs.declared.Refusal.{Refusal}
+use Rattle.refusals.specs.declared.Refusal.the-variants.{ResultTooShort}
+use Rattle.refusals.specs.declared.Outcome.the-variants as outcome
+use Rattle.table.specs.declared.answer.Answer.the-variants.{Made, Refused}
+use Rattle.refusals.specs.Refusals.{first}
+use Rattle.table.specs.Frame.{Step, answerOf, resultOf}
+use Rattle.table.specs.Numbering.{fits, build, tableOf}
+use Rattle.table.proofs.Frame.{Early, refused-answer, refused-result, too-long-answer, too-long-result, made-answer, made-result}
+use Rattle.placing.specs.State.{State, count, written, Placing}
+use Rattle.placing.specs.Written.{Fitting, Written, Ends}
+use Rattle.placing.proofs.Putting.{fits-true, fits-false}
+use Rattle.placing.proofs.Placing.{true-fits, false-fits, placing-fits, placing-unfit, build-positive, placing-whole, whole-count, whole-out}
+
+-- what was numbered from no words is the formula's table
+module _ (φ : Formula) {s e : State} {n : ℕ} (q : Placing s e (build (written s) φ) n) (z : count s ≡ 0) where
+  pub written-none : n ≡ 0 → Written (tableOf φ) (s .out) (e .out) 0
+  unfolding tableOf
+  written-none h = record {
+    unfit = λ p. placing-unfit (placing-whole φ q z) h (build-positive [] φ);
+    fit = λ p. absurd (p refl);
+  }
+
+  fits-out : (n ≡ 0 → ⊥) → fits (length (tableOf φ)) (length (s .out)) ≡ true
+  unfolding tableOf
+  fits-out h = placing-fits (placing-whole φ q z) (omega (arith, h))
+
+  pub written-all : (n ≡ 0 → ⊥) → Written (tableOf φ) (s .out) (e .out) (count e)
+  written-all h = record {
+    unfit = λ p. absurd (omega (arith, h, q .within));
+    fit = λ p. record { fitting = fits-out h; long = whole-count φ q z (fits-out h); words = whole-out φ q z (fits-out h) };
+  }
+
+-- a table of at most `most` words, written to so much of a slice: it fits the part exactly where it fits the slice
+pub written-part : (u out : List ℕ) {part : List ℕ} {most k n : ℕ} → length u ≤ most → k ≡ min (length out) most
+    → Written u (take k out) part n → Written u out (part ++ drop k out) n
+written-part u out {part} {most} {k} {n} short h q = record { unfit = unfit; fit = fit }
+  where
+    lent : length (take k out) ≡ k
+    lent = length-take-le k out (omega arith)
+
+    unfit : n ≡ 0 → fits (length u) (length out) ≡ false
+    unfit z = fits-false (length u) (length out) (omega (arith, short, lent, false-fits (length u) (length (take k out)) (q .unfit z)))
+
+    fit : (n ≡ 0 → ⊥) → Fitting u out (part ++ drop k out) n
+    fit z =
+        let f = q .fit z in
+        let inside = true-fits (length u) (length (take k out)) (f .fitting) in
+        let here : length u ≤ length (take k out) = omega arith in
+        record {
+          fitting = fits-true (length u) (length out) (omega (arith, lent));
+          long = f .long;
+          words =
+              ap (λ (x : List ℕ). x ++ drop k out) (f .words)
+              ∙ append-assoc u (drop (length u) (take k out)) (drop k out)
+              ∙ ap (λ (x : List ℕ). u ++ x) (sym (drop-append-le (length u) (take k out) (drop k out) here) ∙ ap (drop (length u)) (take-append-drop k out));
+        }
+
+-- the three ways in which a step ends
+module _ (s : Step) (t result : List ℕ) where
+  pub ends-refused : Early s → (r : Refusal) → first (s .checks t) ≡ outcome.Refused r → Ends s t result (Refused r) result
+  ends-refused early r e = record { reply = sym (refused-answer s t result r e); slice = sym (refused-result s t result early r e) }
+
+  module _ {made : List ℕ} {n : ℕ} (ok : first (s .checks t) ≡ outcome.Accepted) (q : Written (s .makes t) result made n) where
+    pub ends-too-long : length made ≡ length result → n ≡ 0 → Ends s t result (Refused ResultTooShort) (replicate (length made) 0)
+    ends-too-long same z = record {
+      reply = sym (too-long-answer s t result ok (q .unfit z));
+      slice = ap (λ (m : ℕ). replicate m 0) same ∙ sym (too-long-result s t result ok (q .unfit z));
+    }
+
+    pub ends-made : (n ≡ 0 → ⊥) → Ends s t result (Made n) made
+    ends-made z =
+        let f = q .fit z in
+        record {
+          reply = ap Made (f .long) ∙ sym (made-answer s t result ok (f .fitting));
+          slice = f .words ∙ sym (made-result s t result ok (f .fitting));
+        }

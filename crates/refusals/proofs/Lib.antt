@@ -1,0 +1,2 @@
+-- Which check of a list applies first.
+pub mod First

@@ -1,0 +1,2 @@
+-- Refusals, their numbers and places.
+pub mod Refusals

@@ -1,0 +1,2 @@
+-- The answers of the steps as numbers.
+pub mod Replies

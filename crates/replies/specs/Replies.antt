@@ -1,0 +1,44 @@
+-- The answers of the steps as numbers: document 01's number and place, and what an accepted call says.
+use Prim.Native.Nat.{ℕ, _-_, _*_}
+use mathlib.Core.Path.{_≡_}
+use mathlib.Core.Bool.{Bool}
+use Rattle.refusals.specs.declared.Outcome.{Outcome}
+use Rattle.refusals.specs.declared.Outcome.the-variants as outcome
+use Rattle.refusals.specs.Refusals.{outcomeNumber, outcomePlace}
+use Rattle.row_words.specs.Row.{rowWords}
+use Rattle.evaluation.specs.declared.answer.Judged.{Judged}
+use Rattle.evaluation.specs.Answers.{said}
+use Rattle.table.specs.declared.answer.Answer.{Answer}
+use Rattle.table.specs.Frame.{answerReport, answerWords}
+
+-- a form's answer in lent numbers: the refusal's two, and the form's length, 0 where there is none
+pub record FormReply (a : Answer) (number words place : ℕ) : Type 0 where
+  pub is-number : number ≡ answerReport a .0
+  pub is-words : words ≡ answerWords a
+  pub is-place : place ≡ answerReport a .1
+
+-- a judgement's reply in lent numbers, with the tally after it
+pub record JudgeReply (j : Judged) (number judged held : ℕ) (holds : Bool) (moments failing place : ℕ) : Type 0 where
+  pub is-number : number ≡ said (j .answer) .number
+  pub is-judged : judged ≡ j .tally .judged
+  pub is-held : held ≡ j .tally .held
+  pub is-holds : holds ≡ said (j .answer) .holds
+  pub is-moments : moments ≡ said (j .answer) .moments
+  pub is-failing : failing ≡ said (j .answer) .failing
+  pub is-place : place ≡ said (j .answer) .place
+
+-- where the rule's own row starts among the rows of a scratch, and how long it is; both 0 where there is none
+abbrev pub rowFrom : Outcome → ℕ → ℕ → ℕ
+rowFrom outcome.Accepted table samples = (table - 1) * rowWords samples
+rowFrom (outcome.Refused r) table samples = 0
+
+abbrev pub rowLength : Outcome → ℕ → ℕ
+rowLength outcome.Accepted samples = rowWords samples
+rowLength (outcome.Refused r) samples = 0
+
+-- the row call's reply in lent numbers
+pub record RowReply (o : Outcome) (table samples number from words place : ℕ) : Type 0 where
+  pub is-number : number ≡ outcomeNumber o
+  pub is-from : from ≡ rowFrom o table samples
+  pub is-words : words ≡ rowLength o samples
+  pub is-place : place ≡ outcomePlace o

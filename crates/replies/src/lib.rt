@@ -1,0 +1,72 @@
+// The answers of the steps as lent numbers: document 01's refusal number, 0 when the call is accepted, its place, and what an accepted call says.
+ghost use mathlib.Core.Path.{_≡_};
+ghost use Rattle.refusals.specs.Refusals.{outcomeNumber, outcomePlace};
+ghost use Rattle.row_words.specs.Row.{rowWords};
+ghost use Rattle.evaluation.specs.Answers.{said};
+ghost use Rattle.replies.specs.Replies.{FormReply};
+use evaluation::answer::Judgement;
+use refusals::Outcome;
+use table::answer;
+use table::answer::Answer;
+
+pub fn reply(o: Outcome, place: &mut usize) -> u32
+    ensures { λ r. ⌜ r ≡ outcomeNumber o ⌝ }
+    ensures { λ r. ⌜ now (place .exit) ≡ outcomePlace o ⌝ }
+{
+    let report = refusals::outcome_report(o);
+    *place = report.1;
+    report.0
+}
+
+// How many words a form has, or the refusal, in lent numbers.
+pub fn form_reply(a: Answer, words: &mut usize, place: &mut usize) -> u32
+    ensures { λ r. ⌜ FormReply a r (now (words .exit)) (now (place .exit)) ⌝ }
+{
+    let report = answer::report_of(a);
+    *words = answer::words_of(a);
+    *place = report.1;
+    report.0
+}
+
+pub fn judge_reply(
+    j: Judgement,
+    holds: &mut bool,
+    moments: &mut usize,
+    failing: &mut usize,
+    place: &mut usize,
+) -> u32
+    ensures { λ r. ⌜ r ≡ said j .number ⌝ }
+    ensures { λ r. ⌜ now (holds .exit) ≡ said j .holds ⌝ }
+    ensures { λ r. ⌜ now (moments .exit) ≡ said j .moments ⌝ }
+    ensures { λ r. ⌜ now (failing .exit) ≡ said j .failing ⌝ }
+    ensures { λ r. ⌜ now (place .exit) ≡ said j .place ⌝ }
+{
+    match j {
+        Judgement::Judged {
+            holds: h,
+            moments: m,
+            failing: f,
+        } => {
+            *holds = h;
+            *moments = m;
+            *failing = f;
+            *place = 0;
+            0
+        }
+        Judgement::Refused(r) => {
+            *holds = false;
+            *moments = 0;
+            *failing = 0;
+            let report = refusals::report_of(r);
+            *place = report.1;
+            report.0
+        }
+    }
+}
+
+// The 64-bit words of a row of so many samples.
+pub fn row_words(samples: usize) -> usize
+    ensures { λ r. ⌜ r ≡ rowWords samples ⌝ }
+{
+    samples / 64 + (samples % 64 + 63) / 64
+}

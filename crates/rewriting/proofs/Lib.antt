@@ -1,0 +1,4 @@
+-- The slots of a word's three forms.
+pub mod Places
+pub mod Rewritten
+pub mod Stores

@@ -1,0 +1,50 @@
+-- The rows of formulas at the start of the scratch.
+use Prim.Native.Nat.{ℕ, _*_, _≤_, _<_}
+use mathlib.Core.Path.{_≡_}
+use mathlib.Core.Bool.{false, cond}
+use mathlib.Core.List.{List, [], _∷_, _++_}
+use native.Mathlib.Decide.{decLt, decLe}
+use lib.ListN.{length, drop}
+use lib.Dec.{lit<, lit≤, eqb}
+use Rattle.logic.specs.Formula.{Formula}
+use Rattle.logic.specs.Lasso.{Lasso}
+use Rattle.logic.specs.Truth.{truth}
+use Rattle.row_words.specs.Row.{row, rowWords}
+use Rattle.table.specs.Node.{left, right}
+use Rattle.refusals.specs.declared.Outcome.the-variants.{Accepted}
+use Rattle.table.specs.Checks.{checked}
+
+-- samples, a loop start and a driven count as a lasso; where the loop start is not below the number of samples or the count is over 32, both of which
+-- are refused, a single sample 0 of which nothing is driven
+abbrev pub lassoBy : (samples : List ℕ) (start driven : ℕ) → Dec (start < length samples) → Dec (driven ≤ 32) → Lasso
+lassoBy samples start driven (yes h) (yes k) = record { samples = samples; start = start; driven = driven; inside = h; few = k }
+lassoBy samples start driven (yes h) (no k) = record { samples = 0 ∷ []; start = 0; driven = 0; inside = lit< tt; few = lit≤ tt }
+lassoBy samples start driven (no h) k = record { samples = 0 ∷ []; start = 0; driven = 0; inside = lit< tt; few = lit≤ tt }
+
+unfoldable pub lassoOf : List ℕ → ℕ → ℕ → Lasso
+lassoOf samples start driven = lassoBy samples start driven (decLt start (length samples)) (decLe driven 32)
+
+-- the row of a formula: its truth at each position below the number of samples
+unfoldable pub rowOf : Lasso → Formula → List ℕ
+rowOf r φ = row (length (r .samples)) (truth r φ)
+
+-- the rows of formulas, one after the other
+unfoldable pub rowsOf : Lasso → List Formula → List ℕ
+rowsOf r [] = []
+rowsOf r (φ ∷ φs) = rowOf r φ ++ rowsOf r φs
+
+-- rows at the start of the scratch, and past them its own words
+unfoldable pub rowsThen : Lasso → List Formula → List ℕ → List ℕ
+rowsThen r φs scratch = rowsOf r φs ++ drop (length φs * rowWords (length (r .samples))) scratch
+
+-- the word whose row is read on the left: a word with one operand has it on both sides
+unfoldable pub firstOperand : ℕ → ℕ
+firstOperand w = cond (eqb (left w) 0) (right w) (left w)
+
+-- what the filling of rows rests on; how many letters are driven is no part of it
+pub record Fillable (t samples : List ℕ) (start : ℕ) (scratch : List ℕ) : Type 0 where
+  pub accepted : checked false 16383 t ≡ Accepted
+  pub some : 1 ≤ length samples
+  pub few : length samples ≤ 4096
+  pub inside : start < length samples
+  pub room : length t * rowWords (length samples) ≤ length scratch

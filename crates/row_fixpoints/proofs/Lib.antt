@@ -1,0 +1,2 @@
+-- The rows that need no sweep.
+pub mod Unswept

@@ -1,0 +1,2 @@
+-- What is read off a row.
+pub mod Reading

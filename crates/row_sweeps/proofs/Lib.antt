@@ -1,0 +1,2 @@
+-- The laws of sweeps over rows.
+pub mod Sweeps

@@ -1,0 +1,2 @@
+-- The end of an operand.
+pub mod Settled

@@ -1,0 +1,2 @@
+-- What a byte begins.
+pub mod Signed

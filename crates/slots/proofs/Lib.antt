@@ -1,0 +1,4 @@
+-- A slot's fields, and its operands in turn.
+pub mod Fields
+pub mod Arity
+pub mod Turns

@@ -1,0 +1,2 @@
+-- Why a word of an accepted table is so.
+pub mod Words

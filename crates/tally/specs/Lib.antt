@@ -1,0 +1,2 @@
+-- The tally.
+pub mod Tallies
