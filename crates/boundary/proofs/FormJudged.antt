@@ -15,7 +15,7 @@ use Rattle.pipeline.specs.Claim.{Kept}
 use Rattle.evaluation.specs.Judging.{lassoOf, rowOf, judgement, rowOutcome, lastRow}
 use Rattle.judge_checks.proofs.Outcomes.{judgeable-accepted}
 use Rattle.evaluation.proofs.Accepted.{accepted-facts}
-use Rattle.evaluation.proofs.Promise.{rule-drives}
+use Rattle.judge_laws.proofs.Promise.{rule-drives}
 
 module _ (t form : List ℕ) (n : ℕ) (kept : Kept t form n) (samples : List ℕ) (start driven : ℕ) (scratch : List ℕ)
     (accepted : rowOutcome t samples start driven scratch ≡ Accepted) where

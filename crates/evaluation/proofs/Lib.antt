@@ -1,5 +1,3 @@
--- The promise of a judgement.
+-- What an accepted judgement says of its rows.
 pub mod Accepted
 pub mod LastRow
-pub mod Promise
-pub mod Alike

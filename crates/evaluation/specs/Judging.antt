@@ -1,12 +1,10 @@
 -- What a judgement answers, and what it leaves in the scratch: accepted or refused, the whole of both.
-use Prim.Native.Nat.{ℕ, _+_, _-_, _*_, _/_, _%_}
-use mathlib.Core.Bool.{Bool}
+use Prim.Native.Nat.{ℕ, _+_, _-_, _*_}
 use mathlib.Core.List.{List, []}
-use lib.ListN.{length, getD}
+use lib.ListN.{length}
 use Rattle.logic.specs.Formula.{Formula}
 use Rattle.logic.specs.Lasso.{Lasso}
 use Rattle.logic.specs.Truth.{Sequence, truth}
-use Rattle.logic.specs.Bit.{bit}
 use Rattle.row_words.specs.Row.{rowWords, countTrue, firstFalse}
 use Rattle.refusals.specs.declared.Outcome.{Outcome}
 use Rattle.refusals.specs.declared.Outcome.the-variants.{Accepted, Refused}
@@ -20,10 +18,6 @@ unfoldable pub use Rattle.row_filling.specs.Filling.{lassoOf, rowOf}
 use Rattle.row_filling.specs.Filling.{rowsThen}
 use Rattle.tally.specs.Tallies.{counted}
 use Rattle.judge_checks.specs.Checks.{rowChecks, judgeChecks}
-
--- whether a row says that position i holds
-abbrev pub holdsIn : List ℕ → ℕ → Bool
-holdsIn r i = bit (getD r (i / 64) 0) (i % 64)
 
 -- whether the rule holds at position 0, at how many positions, and the first that fails, the number of samples if none
 abbrev pub judgement : Sequence → ℕ → Judgement

@@ -1,4 +1,2 @@
 -- What a judgement answers, what it leaves in the scratch, and the tally after it.
 pub mod Judging
-pub mod Answers
-pub mod Alike

@@ -1,15 +1,15 @@
--- The form as it is written to a slice, and what it is asked with.
+-- What a form is asked with.
 use Prim.Native.Nat.{ℕ, _+_, _*_, _^_, _≤_, _<_}
 use mathlib.Core.Path.{_≡_}
-use mathlib.Core.Bool.{true, false}
-use mathlib.Core.List.{List, _++_}
-use lib.ListN.{length, drop}
+use mathlib.Core.Bool.{true}
+use mathlib.Core.List.{List}
+use lib.ListN.{length}
 use Rattle.refusals.specs.declared.Outcome.the-variants as outcome
 use Rattle.table.specs.declared.limits.Limits.{Limits}
 use Rattle.table.specs.Limits.{desk, plainLimit}
 use Rattle.table.specs.Checks.{checked}
-use Rattle.table.specs.Numbering.{room, fits}
-use Rattle.table.specs.Steps.{fixpoints, normalTable}
+use Rattle.table.specs.Numbering.{room}
+use Rattle.table.specs.Steps.{fixpoints}
 use Rattle.fixpoints.specs.Positions.{Kept}
 use Rattle.filling.specs.Filled.{slotsFor, draftSize}
 
@@ -51,10 +51,3 @@ pub record Positioned (t positions : List ℕ) (bits : ℕ) : Type 0 where
 pub record Sized (t : List ℕ) (slots : ℕ) (out : List ℕ) (words : ℕ) : Type 0 where
   pub few-slots : draftSize t ≤ slots
   pub few-words : room (length out) ≤ words
-
--- the form stands at the front of the slice, and r is the number of its words; 0: it does not fit
-pub record Formed (t out e : List ℕ) (r : ℕ) : Type 0 where
-  pub none : r ≡ 0 → fits (length (normalTable t)) (length out) ≡ false
-  pub fitting : 0 < r → fits (length (normalTable t)) (length out) ≡ true
-  pub count : 0 < r → r ≡ length (normalTable t)
-  pub front : 0 < r → e ≡ normalTable t ++ drop (length (normalTable t)) out

@@ -1,8 +1,9 @@
 // The form in as much of the result as it can need, with an index and a draft of the size that it can need.
 ghost use Prim.Native.Nat.{_+_, _*_, _<_, min};
 ghost use mathlib.Core.Path.{_≡_};
-ghost use Rattle.table.specs.Steps.{fixpoints};
-ghost use Rattle.forms.specs.Forms.{mostWords, shortSlots, mostSlots, Positioned, Sized, Formed, Accepted};
+ghost use Rattle.table.specs.Steps.{normalTable};
+ghost use Rattle.placing.specs.Written.{Written};
+ghost use Rattle.forms.specs.Forms.{mostWords, shortSlots, mostSlots, Positioned, Sized, Accepted};
 
 // The sizes of the local arrays: a position for each word of a plain table, by its number, and the slots of a short draft and of any.
 const POSITIONS: usize = 131;
@@ -24,7 +25,7 @@ pub fn words(n: usize, bits: u32, room: usize) -> usize
 // A short rule's form.
 pub fn small(table: &[u32], positions: &[u8], bits: u32, out: &mut [u32]) -> usize
     requires { ⌜ Positioned (now table) (now positions) bits × Sized (now table) shortSlots (now out) 1023 ⌝ }
-    ensures { λ r. ⌜ Formed (now (table .entry)) (now (out .entry)) (now (out .exit)) r ⌝ }
+    ensures { λ r. ⌜ Written (normalTable (now (table .entry))) (now (out .entry)) (now (out .exit)) r ⌝ }
 {
     let mut draft = [0u64; SHORT_SLOTS];
     let mut numbers = [0u16; SHORT_SLOTS];
@@ -49,7 +50,7 @@ pub fn small(table: &[u32], positions: &[u8], bits: u32, out: &mut [u32]) -> usi
 // A form of at most as many words as a desk's program has room for.
 pub fn middle(table: &[u32], positions: &[u8], bits: u32, out: &mut [u32]) -> usize
     requires { ⌜ Positioned (now table) (now positions) bits × Sized (now table) mostSlots (now out) 4096 ⌝ }
-    ensures { λ r. ⌜ Formed (now (table .entry)) (now (out .entry)) (now (out .exit)) r ⌝ }
+    ensures { λ r. ⌜ Written (normalTable (now (table .entry))) (now (out .entry)) (now (out .exit)) r ⌝ }
 {
     let mut draft = [0u64; SLOTS];
     let mut numbers = [0u16; SLOTS];
@@ -74,7 +75,7 @@ pub fn middle(table: &[u32], positions: &[u8], bits: u32, out: &mut [u32]) -> us
 // Any form.
 pub fn large(table: &[u32], positions: &[u8], bits: u32, out: &mut [u32]) -> usize
     requires { ⌜ Positioned (now table) (now positions) bits × Sized (now table) mostSlots (now out) 16383 ⌝ }
-    ensures { λ r. ⌜ Formed (now (table .entry)) (now (out .entry)) (now (out .exit)) r ⌝ }
+    ensures { λ r. ⌜ Written (normalTable (now (table .entry))) (now (out .entry)) (now (out .exit)) r ⌝ }
 {
     let mut draft = [0u64; SLOTS];
     let mut numbers = [0u16; SLOTS];
@@ -99,7 +100,7 @@ pub fn large(table: &[u32], positions: &[u8], bits: u32, out: &mut [u32]) -> usi
 // The number of words of the form, which stand at the front of the result, or 0 where they do not fit.
 pub fn form(table: &[u32], result: &mut [u32]) -> usize
     requires { ⌜ Accepted (now table) ⌝ }
-    ensures { λ r. ⌜ Formed (now (table .entry)) (now (result .entry)) (now (result .exit)) r ⌝ }
+    ensures { λ r. ⌜ Written (normalTable (now (table .entry))) (now (result .entry)) (now (result .exit)) r ⌝ }
 {
     let mut positions = [0u8; POSITIONS];
     let bits = fixpoints::count(table, &mut positions);

@@ -1,3 +1,2 @@
 -- What the checks of a judgement say.
-pub mod Letters
 pub mod Outcomes

@@ -5,11 +5,11 @@ ghost use mathlib.Core.List.{_++_};
 ghost use Rattle.refusals.specs.Refusals.{first};
 ghost use Rattle.row_words.specs.Row.{rowWords};
 ghost use lib.ListN.{length};
-ghost use Rattle.table.specs.StepChecks.{isUndriven, letterChecks};
+ghost use Rattle.table.specs.StepChecks.{letterChecks};
 ghost use Rattle.judge_checks.specs.Checks.{recordingChecks, scratchChecks, tallyChecks, rowChecks, judgeChecks};
+use letter_checks::check_letters;
 use refusals::Outcome;
 use refusals::Refusal;
-use table::word;
 use tally::Tally;
 
 // 13 to 15, then 22.
@@ -27,30 +27,6 @@ pub fn check_recording(samples: usize, start: usize, driven: usize) -> Outcome
     }
     if driven > 32 {
         return Outcome::Refused(Refusal::TooManyDriven);
-    }
-    Outcome::Accepted
-}
-
-// Whether a word names a letter that is not driven.
-fn is_undriven(word: u32, driven: usize) -> bool
-    ensures { λ r. ⌜ r ≡ isUndriven driven word ⌝ }
-{
-    match word::kind(word) {
-        3..=4 => word::right(word) > driven,
-        _ => false,
-    }
-}
-
-// 21: the lowest word that names one.
-pub fn check_letters(table: &[u32], driven: usize) -> Outcome
-    ensures { λ r. ⌜ r ≡ first (letterChecks driven 1 (now (table .entry))) ⌝ }
-{
-    let mut i = 0;
-    while i < table.len() {
-        if is_undriven(table[i], driven) {
-            return Outcome::Refused(Refusal::LetterNotDriven(i + 1));
-        }
-        i += 1;
     }
     Outcome::Accepted
 }

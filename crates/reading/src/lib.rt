@@ -1,7 +1,5 @@
 // The checks of a table of words, numbers 1 to 10, in document 01's order.
 mod rooms;
-mod uses;
-mod words;
 
 use refusals::Outcome;
 use refusals::Refusal;

@@ -1,13 +1,13 @@
 // The words of a table and their uses, with an index and marks of the size that the table can need: short tables pay for no more.
-use crate::uses;
-use crate::words;
+use faults::uses;
+use faults::words;
 use refusals::Outcome;
 ghost use mathlib.Core.Path.{_≡_};
 ghost use mathlib.Core.List.{[]};
 ghost use Prim.Native.Nat.{_≤_};
 ghost use lib.ListN.{length};
-ghost use Rattle.reading.specs.Contents.{contents};
-ghost use Rattle.reading.specs.Marks.{Room, Kept};
+ghost use Rattle.faults.specs.Contents.{contents};
+ghost use Rattle.faults.specs.Marks.{Room, Kept};
 
 // In an empty index, with no operand marked yet.
 fn fault_in(table: &[u32], plain: bool, index: &mut [u16], marks: &mut [bool]) -> Outcome

@@ -2,7 +2,7 @@
 ghost use mathlib.Core.Path.{_≡_};
 ghost use Rattle.refusals.specs.Refusals.{outcomeNumber, outcomePlace};
 ghost use Rattle.row_words.specs.Row.{rowWords};
-ghost use Rattle.evaluation.specs.Answers.{said};
+ghost use Rattle.judge_laws.specs.Answers.{said};
 ghost use Rattle.replies.specs.Replies.{FormReply};
 use evaluation::answer::Judgement;
 use refusals::Outcome;

@@ -1,6 +1,6 @@
 use mathlib.Core.Path.{ap, _∙_}
 use Rattle.evaluation.specs.declared.answer.Judged.{Judged}
-use Rattle.evaluation.specs.Answers.{said}
+use Rattle.judge_laws.specs.Answers.{said}
 use borrow.Author.Needs.{needs}
 use Rattle.boundary.proofs.showrule_judge.Statement.{statement}
 use Rattle.boundary.proofs.showrule_judge.Tie as tie

@@ -3,7 +3,7 @@ use Prim.Native.Nat.{ℕ, _<_}
 use native.Mathlib.Omega.{arith}
 use lib.ListN.{length}
 use borrow.Author.Tests.{eq-eqb, ne-eqb}
-use Rattle.reading.proofs.First.{checked-in-order, over-limit, over-all, length-asked, contents-asked}
+use Rattle.faults.proofs.First.{checked-in-order, over-limit, over-all, length-asked, contents-asked}
 use borrow.Fn.Kinds.{In}
 use borrow.Fn.PlainCycle.{Measures, is, falls, and}
 use Rattle.reading.proofs.check.Reads as check

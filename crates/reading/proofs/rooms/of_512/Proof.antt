@@ -1,6 +1,6 @@
 -- The index and the marks are empty, and large enough.
 use native.Mathlib.Omega.{arith}
-use Rattle.reading.proofs.Marking.{room-for, kept-none}
+use Rattle.faults.proofs.Marking.{room-for, kept-none}
 use borrow.Author.Needs.{needs}
 use Rattle.reading.proofs.rooms.of_512.Statement.{statement}
 use Rattle.reading.proofs.rooms.of_512.Tie as tie

@@ -68,7 +68,7 @@ impl Case {
         Case::new(label, Step::Text, &bytes, room)
     }
 
-    /// The case as the runner reads it (crates/cases/src/input.rt).
+    /// The case as the runner reads it (crates/case_input/src/input.rt).
     pub fn words(&self) -> Vec<u32> {
         let (place, word) = self.replaced.unwrap_or((0, 0));
         let (listed, count, seed) = match &self.samples {

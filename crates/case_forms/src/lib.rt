@@ -1,0 +1,114 @@
+// The calls of a case that check a table or make one of it, on slices that held a pattern, and what comes back.
+use case_input::input;
+use case_input::input::Case;
+use case_input::show;
+use case_input::sum;
+
+pub fn check(c: Case, table: &[u32]) {
+    let mut place: usize = 9;
+    show::answer(
+        boundary::showrule_check(table, c.plain, c.limit, &mut place),
+        place,
+    );
+}
+
+pub fn classify(c: Case, table: &[u32]) {
+    let mut bytes = [0xEEu8; 16400];
+    let mut place: usize = 9;
+    let room = c.room;
+    if room <= 16400 {
+        show::answer(
+            boundary::showrule_classify(table, &mut bytes[0..room], &mut place),
+            place,
+        );
+    }
+    sum::bytes(&bytes);
+}
+
+// The listed words are the bytes of the text.
+pub fn text(c: Case, listed: &[u32]) {
+    let mut bytes = [0u8; 16400];
+    let mut result = [0xEEEEEEEEu32; 140];
+    let mut words: usize = 9;
+    let mut place: usize = 9;
+    let n = listed.len();
+    let room = c.room;
+    input::bytes(listed, &mut bytes);
+    if n <= 16400 && room <= 140 {
+        let number = boundary::showrule_text(
+            &bytes[0..n],
+            &mut result[0..room],
+            &mut words,
+            &mut place,
+        );
+        show::answer(number, place);
+    }
+    show::number(words);
+    sum::plain(&result);
+}
+
+pub fn plain(c: Case, table: &[u32]) {
+    let mut result = [0xEEEEEEEEu32; 140];
+    let mut words: usize = 9;
+    let mut place: usize = 9;
+    let room = c.room;
+    if room <= 140 {
+        let number = boundary::showrule_plain(table, &mut result[0..room], &mut words, &mut place);
+        show::answer(number, place);
+    }
+    show::number(words);
+    sum::plain(&result);
+}
+
+pub fn normal(c: Case, table: &[u32]) {
+    let mut result = [0xEEEEEEEEu32; 16400];
+    let mut words: usize = 9;
+    let mut place: usize = 9;
+    let room = c.room;
+    if room <= 16400 {
+        let number = boundary::showrule_normal(table, &mut result[0..room], &mut words, &mut place);
+        show::answer(number, place);
+    }
+    show::number(words);
+    sum::form(&result);
+}
+
+pub fn form(c: Case, table: &[u32]) {
+    let mut plain = [0xEEEEEEEEu32; 140];
+    let mut result = [0xEEEEEEEEu32; 16400];
+    let mut words: usize = 9;
+    let mut place: usize = 9;
+    let room = c.room;
+    let second = c.second;
+    if room <= 140 && second <= 16400 {
+        let number = boundary::showrule_form(
+            table,
+            &mut plain[0..room],
+            &mut result[0..second],
+            &mut words,
+            &mut place,
+        );
+        show::answer(number, place);
+    }
+    show::number(words);
+    sum::plain(&plain);
+    sum::form(&result);
+}
+
+pub fn dialect(c: Case, table: &[u32]) {
+    let mut result = [0xEEEEEEEEu32; 16400];
+    let mut words: usize = 9;
+    let mut place: usize = 9;
+    let room = c.room;
+    if room <= 16400 {
+        let number = boundary::showrule_dialect(
+            table,
+            &mut result[0..room],
+            &mut words,
+            &mut place,
+        );
+        show::answer(number, place);
+    }
+    show::number(words);
+    sum::form(&result);
+}

@@ -1,0 +1,3 @@
+-- The promise of a judgement.
+pub mod Promise
+pub mod Alike

@@ -1,0 +1,1 @@
+// The laws of a judgement's answer; no code.

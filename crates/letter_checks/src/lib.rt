@@ -1,0 +1,31 @@
+// Letters that a recording does not drive.
+use refusals::Outcome;
+use refusals::Refusal;
+use table::word;
+ghost use mathlib.Core.Path.{_≡_};
+ghost use Rattle.refusals.specs.Refusals.{first};
+ghost use Rattle.table.specs.StepChecks.{isUndriven, letterChecks};
+
+// Whether a word names a letter that is not driven.
+fn is_undriven(word: u32, driven: usize) -> bool
+    ensures { λ r. ⌜ r ≡ isUndriven driven word ⌝ }
+{
+    match word::kind(word) {
+        3..=4 => word::right(word) > driven,
+        _ => false,
+    }
+}
+
+// 21: the lowest word that names one.
+pub fn check_letters(table: &[u32], driven: usize) -> Outcome
+    ensures { λ r. ⌜ r ≡ first (letterChecks driven 1 (now (table .entry))) ⌝ }
+{
+    let mut i = 0;
+    while i < table.len() {
+        if is_undriven(table[i], driven) {
+            return Outcome::Refused(Refusal::LetterNotDriven(i + 1));
+        }
+        i += 1;
+    }
+    Outcome::Accepted
+}
