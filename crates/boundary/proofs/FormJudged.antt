@@ -11,7 +11,7 @@ use Rattle.logic.proofs.Lasso.Truth.{truth-holds}
 use Rattle.refusals.specs.declared.Outcome.the-variants.{Accepted}
 use Rattle.table.specs.Table.{rule}
 use Rattle.row_words.specs.Row.{row, rowWords}
-use Rattle.pipeline.specs.Claim.{Kept}
+use Rattle.claims.specs.Claim.{Kept}
 use Rattle.evaluation.specs.Judging.{lassoOf, rowOf, judgement, rowOutcome, lastRow}
 use Rattle.judge_checks.proofs.Outcomes.{judgeable-accepted}
 use Rattle.evaluation.proofs.Accepted.{accepted-facts}

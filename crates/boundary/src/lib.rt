@@ -8,16 +8,12 @@ ghost use Rattle.table.specs.Limits.{desk};
 ghost use Rattle.table.specs.Checks.{checked};
 ghost use Rattle.table.specs.Frame.{classStep, plainStep, normalStep, dialectStep, outcomeOf, answerOf, resultOf};
 ghost use Rattle.text.specs.Text.{textStep};
-ghost use Rattle.pipeline.specs.Whole.{wholeAnswer, wholeResult};
+ghost use Rattle.claims.specs.Whole.{wholeAnswer, wholeResult};
 ghost use Rattle.evaluation.specs.Judging.{judgeOutcome, rowOutcome, scratchAfter};
 ghost use Rattle.evaluation.specs.Judging.{reply as judgeReply};
 ghost use Rattle.replies.specs.Replies.{FormReply, JudgeReply, RowReply};
-use refusals::Outcome;
 use replies::form_reply;
-use replies::judge_reply;
 use replies::reply;
-use replies::row_words;
-use tally::Tally;
 
 #[no_mangle]
 pub extern "C" fn showrule_check(table: &[u32], plain: bool, limit: usize, place: &mut usize) -> u32
@@ -142,16 +138,19 @@ pub extern "C" fn showrule_judge(
         (judgeOutcome (now (table .entry)) (now (samples .entry)) start driven (now (scratch .entry)) (record { judged = now (judged .entry); held = now (held .entry) }))
         (now (table .entry)) (now (samples .entry)) start driven (now (scratch .entry)) ⌝ }
 {
-    let tally = Tally {
-        judged: *judged,
-        held: *held,
-    };
-    let j = evaluation::judge(table, samples, start, driven, scratch, tally);
-    let after = j.tally;
-    *judged = after.judged;
-    *held = after.held;
-    let answer = j.answer;
-    judge_reply(answer, holds, moments, failing, place)
+    judge_calls::judge(
+        table,
+        samples,
+        start,
+        driven,
+        scratch,
+        judged,
+        held,
+        holds,
+        moments,
+        failing,
+        place,
+    )
 }
 
 // The row call: which part of the scratch is the rule's own row, by its first word and its length.
@@ -173,20 +172,5 @@ pub extern "C" fn showrule_row(
         (rowOutcome (now (table .entry)) (now (samples .entry)) start driven (now (scratch .entry)))
         (now (table .entry)) (now (samples .entry)) start driven (now (scratch .entry)) ⌝ }
 {
-    match evaluation::fill(table, samples, start, driven, scratch) {
-        Outcome::Refused(why) => {
-            *from = 0;
-            *words = 0;
-            let report = refusals::report_of(why);
-            *place = report.1;
-            report.0
-        }
-        Outcome::Accepted => {
-            let width = row_words(samples.len());
-            *from = (table.len() - 1) * width;
-            *words = width;
-            *place = 0;
-            0
-        }
-    }
+    judge_calls::row(table, samples, start, driven, scratch, from, words, place)
 }

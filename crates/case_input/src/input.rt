@@ -45,7 +45,7 @@ pub fn case_of(w: [u32; 15]) -> Case {
 
 fn decode(bytes: &[u8; 65600], out: &mut [u32]) {
     let all: &[u8] = bytes;
-    listing::decode(all, out);
+    decoding::decode(all, out);
 }
 
 // Words of the input, until the slice is full; whether there were so many. Of a slice over 16,400 words nothing is read.

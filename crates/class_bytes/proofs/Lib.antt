@@ -1,4 +1,2 @@
--- The laws of plain kinds, of masked bytes, and of the bytes of a table.
-pub mod PlainKind
-pub mod Shifts
+-- The laws of the bytes of a table.
 pub mod Words

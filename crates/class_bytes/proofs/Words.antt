@@ -2,10 +2,10 @@
 use Prim.Native.Nat.{ℕ, zero, suc, _-_, _≤_, _<_}
 use mathlib.Core.Path.{_≡_, refl, ap, ap₂, sym, _∙_}
 use mathlib.Core.Bool.{true, false}
-use mathlib.Core.List.{List, [], _∷_, _++_, map}
+use mathlib.Core.List.{List, [], _∷_, map}
 use native.Mathlib.Omega.{arith}
-use lib.ListN.{length, getD, take, drop, set, length-map, List·getD-map}
-use lib.Seq.{getD-take, take-suc, drop-cons, set-at, append-snoc, length-take-le}
+use lib.ListN.{length, getD, length-map, List·getD-map}
+use lib.Seq.{getD-take}
 use Rattle.logic.specs.Formula.{const}
 use Rattle.logic.specs.ClassByte.{classByte}
 use Rattle.logic.specs.ClassStep.{nextByte}
@@ -16,9 +16,9 @@ use Rattle.table.specs.Checks.{checked}
 use Rattle.table.specs.Steps.{classBytes}
 use Rattle.table.proofs.Formulas.{length-formulas, formula-of-word}
 use Rattle.table.proofs.Accepted.{accepted-well-formed}
-use Rattle.class_bytes.specs.declared.kind.PlainKind.{PlainKind}
-use Rattle.class_bytes.specs.declared.kind.PlainKind.the-variants as kinds
-use Rattle.class_bytes.specs.PlainKind.{operatorByte, kindByte, takesLeft, takesRight, Stands}
+use Rattle.operator_bytes.specs.declared.kind.PlainKind.{PlainKind}
+use Rattle.operator_bytes.specs.declared.kind.PlainKind.the-variants as kinds
+use Rattle.operator_bytes.specs.PlainKind.{operatorByte, kindByte, takesLeft, takesRight, Stands}
 use Rattle.class_bytes.specs.Words.{PlainWords, Filled}
 
 pub length-classBytes : (t : List ℕ) → length (classBytes t) ≡ length t
@@ -84,11 +84,3 @@ module _ (t bytes : List ℕ) (j : ℕ) (plain : PlainWords t) (h : j < length t
   byte-by-kind (kinds.Binary o) s =
       ap₂ (operatorByte o) (operand-byte (left (getD t j 0)) (left-earlier s refl)) (operand-byte (right (getD t j 0)) (right-earlier s refl))
       ∙ sym (word-byte (kinds.Binary o) s)
-
--- one more byte in its place, and the rest as it was
-pub fill-more : (s d : List ℕ) (i : ℕ) → i < length s → i < length d → set (take i s ++ drop i d) i (getD s i 0) ≡ take (suc i) s ++ drop (suc i) d
-fill-more s d i h k =
-    ap (λ (l : List ℕ). set (take i s ++ l) i (getD s i 0)) (drop-cons d i 0 k)
-    ∙ set-at (take i s) (getD d i 0) (drop (suc i) d) (getD s i 0) i (length-take-le i s (omega arith))
-    ∙ sym (append-snoc (take i s) (getD s i 0) (drop (suc i) d))
-    ∙ ap (λ (l : List ℕ). l ++ drop (suc i) d) (sym (take-suc s i 0 h))

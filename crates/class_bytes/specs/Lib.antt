@@ -1,3 +1,2 @@
--- What a plain kind stands for, and what the bytes of a table are filled with.
-pub mod PlainKind
+-- What the bytes of a table are filled with.
 pub mod Words

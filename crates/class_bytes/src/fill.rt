@@ -1,12 +1,12 @@
 // The bytes of a table of plain words, one a word, in rising order: an operand's byte is read back from the slice.
-use crate::byte;
-use crate::kind;
-use crate::kind::PlainKind;
+use operator_bytes::byte;
+use operator_bytes::kind;
+use operator_bytes::kind::PlainKind;
 use table::word;
 ghost use mathlib.Core.Path.{_≡_};
 ghost use mathlib.Core.List.{_++_};
 ghost use Prim.Native.Nat.{_-_, _≤_, _<_};
-ghost use lib.ListN.{length, getD, drop, replicate};
+ghost use lib.ListN.{length, getD, drop};
 ghost use Rattle.table.specs.Steps.{classBytes};
 ghost use Rattle.class_bytes.specs.Words.{PlainWords, Filled};
 
@@ -43,17 +43,6 @@ pub fn fill(table: &[u32], bytes: &mut [u8])
     let mut i = 0;
     while i < table.len() {
         bytes[i] = byte_at(table, bytes, i);
-        i += 1;
-    }
-}
-
-// All bytes 0.
-pub fn clear(bytes: &mut [u8])
-    ensures { λ r. ⌜ now (bytes .exit) ≡ replicate (length (now (bytes .entry))) 0 ⌝ }
-{
-    let mut i = 0;
-    while i < bytes.len() {
-        bytes[i] = 0;
         i += 1;
     }
 }

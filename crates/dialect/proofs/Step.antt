@@ -17,7 +17,7 @@ use Rattle.table.specs.Steps.{dialectTable}
 use Rattle.table.proofs.Accepted.{accepted-well-formed}
 use Rattle.placing.specs.Written.{Written, Ends}
 use Rattle.placing.proofs.Written as writing
-use Rattle.dialect.proofs.Length.{dialect-short}
+use Rattle.dialect_laws.proofs.Length.{dialect-short}
 
 -- an accepted table has at most 16,383 words
 pub table-few : (t : List ℕ) → checked true 16383 t ≡ outcome.Accepted → length t ≤ 16383

@@ -1,5 +1,4 @@
 // The dialect without W and M: a plain table goes in, and the table of its conversion comes out at the front of the result.
-use placing::put;
 use refusals::Outcome;
 use refusals::Refusal;
 use table::answer::Answer;
@@ -22,7 +21,7 @@ pub fn convert(table: &[u32], result: &mut [u32]) -> Answer
         Outcome::Accepted => {
             let n = write(table, &mut *result);
             if n == 0 {
-                put::clear(result);
+                clearing::words(result);
                 return Answer::Refused(Refusal::ResultTooShort);
             }
             Answer::Made(n)

@@ -1,3 +1,4 @@
 -- The laws of a conversion while its draft is filled.
 pub mod Shapes
 pub mod Forms
+pub mod Letters

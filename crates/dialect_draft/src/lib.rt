@@ -1,18 +1,7 @@
 // The draft of a conversion, in one rising pass. Word j has slot 2j + 1; slot 2j is for the "or" that its W needs, or the "and" that its M needs.
 use slots::slot;
-ghost use Prim.Native.Nat.{_<_};
-ghost use mathlib.Core.Path.{_≡_};
-ghost use lib.ListN.{length, set};
-ghost use Rattle.slots.specs.Slot.{pack};
+ghost use lib.ListN.{length};
 ghost use Rattle.dialect_draft.specs.Filling.{Room, Filled, Next};
-
-// A word at slot i.
-fn store(draft: &mut [u64], i: usize, kind: u32, left: usize, right: usize)
-    requires { ⌜ (i < length (now draft)) × (kind < 16) × (left < 65536) × (right < 65536) ⌝ }
-    ensures { λ r. ⌜ now (draft .exit) ≡ set (now (draft .entry)) i (pack kind left right) ⌝ }
-{
-    draft[i] = slot::pack(kind, left, right);
-}
 
 // Word j, after those before it.
 fn convert_word(table: &[u32], draft: &mut [u64], j: usize)
@@ -28,17 +17,23 @@ fn convert_word(table: &[u32], draft: &mut [u64], j: usize)
     let a = 2 * left + 1;
     let b = 2 * right + 1;
     match kind {
-        1..=4 => store(draft, own, kind, 0, right),
-        7 => store(draft, own, 7, 0, b),
+        1..=4 => {
+            slot::store(draft, own, kind, 0, right);
+        }
+        7 => {
+            slot::store(draft, own, 7, 0, b);
+        }
         9 => {
-            store(&mut *draft, inner, 6, a, b);
-            store(draft, own, 10, b, inner)
+            slot::store(&mut *draft, inner, 6, a, b);
+            slot::store(draft, own, 10, b, inner);
         }
         11 => {
-            store(&mut *draft, inner, 5, a, b);
-            store(draft, own, 8, b, inner)
+            slot::store(&mut *draft, inner, 5, a, b);
+            slot::store(draft, own, 8, b, inner);
         }
-        _ => store(draft, own, kind, a, b),
+        _ => {
+            slot::store(draft, own, kind, a, b);
+        }
     }
 }
 

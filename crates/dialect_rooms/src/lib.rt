@@ -20,19 +20,7 @@ fn write_in(
     ensures { λ r. ⌜ Written (dialectTable (now (table .entry))) (now (result .entry)) (now (result .exit)) r ⌝ }
 {
     dialect_draft::fill(table, &mut *draft);
-    let root = 2 * table.len() + 1;
-    let last = number::number(
-        &*draft,
-        root,
-        &mut *numbers,
-        &mut *stack,
-        &mut *result,
-        &mut *index,
-    );
-    if last == 0 {
-        return 0;
-    }
-    lookup::count(&*index)
+    number::number(&*draft, 2 * table.len() + 1, numbers, stack, result, index)
 }
 
 pub fn of_64(table: &[u32], result: &mut [u32]) -> usize

@@ -17,8 +17,8 @@ use Rattle.refusals.specs.declared.Outcome.{Outcome}
 use Rattle.refusals.specs.declared.Outcome.the-variants.{Accepted, Refused}
 use Rattle.refusals.specs.Refusals.{_⇒_, first, decideBy}
 use Rattle.table.specs.Checks.{occurs, wordChecks, wordsChecks, useChecks, tableChecks, checked}
-use Rattle.fields.specs.Layout.{andThen}
-use Rattle.fields.proofs.First.{first-append}
+use Rattle.field_checks.specs.Field.{andThen}
+use Rattle.field_checks.proofs.First.{first-append}
 use Rattle.faults.specs.Contents.{contents}
 
 -- a refusal leaves nothing to say of what acceptance would tell

@@ -12,9 +12,9 @@ use Rattle.refusals.specs.declared.Refusal.the-variants.{Unused}
 use Rattle.refusals.specs.Refusals.{first, decideBy}
 use Rattle.table.specs.Node.{Shape, none, constant, letter, unary, binary, kind, left, right, shape}
 use Rattle.table.specs.Checks.{uses, used, useChecks}
-use Rattle.fields.specs.declared.layout.Layout.{Layout}
-use Rattle.fields.specs.declared.layout.Layout.the-variants.{Constant, Letter, Unary, Binary}
-use Rattle.fields.specs.Layout.{layoutOf}
+use Rattle.field_checks.specs.declared.layout.Layout.{Layout}
+use Rattle.field_checks.specs.declared.layout.Layout.the-variants.{Constant, Letter, Unary, Binary}
+use Rattle.field_checks.specs.Layout.{layoutOf}
 use Rattle.lookup.proofs.Laws.{indexed-none}
 use Rattle.fields.specs.Marks.{markedBy, markedWith}
 use Rattle.faults.specs.Marks.{Marked, Room, Kept}

@@ -6,7 +6,7 @@ use lib.ListN.{length}
 use Rattle.refusals.specs.declared.Outcome.{Outcome}
 use Rattle.refusals.specs.Refusals.{first}
 use Rattle.table.specs.Checks.{wordsChecks, useChecks}
-use Rattle.fields.specs.Layout.{andThen}
+use Rattle.field_checks.specs.Field.{andThen}
 
 abbrev pub contents : Bool → List ℕ → Outcome
 contents plainOnly t = andThen (first (wordsChecks plainOnly [] t)) (first (useChecks t 1 (length t - 1)))

@@ -11,8 +11,9 @@ use Rattle.refusals.specs.declared.Refusal.the-variants.{KindZero, NotPlain, Fi
 use Rattle.refusals.specs.Refusals.{first, decideBy}
 use Rattle.table.specs.Node.{Shape, none, constant, letter, unary, binary, kind, left, right, shape}
 use Rattle.table.specs.Checks.{occurs, wordChecks}
-use Rattle.fields.specs.declared.layout.Layout.the-variants.{Constant}
-use Rattle.fields.specs.Layout.{layoutOf, fieldChecks}
+use Rattle.field_checks.specs.declared.layout.Layout.the-variants.{Constant}
+use Rattle.field_checks.specs.Layout.{layoutOf}
+use Rattle.fields.specs.Layout.{fieldChecks}
 
 decide-or : (a b : Bool) (r : Refusal) (o : Outcome) → decideBy (a || b) r o ≡ decideBy a r (decideBy b r o)
 decide-or true b r o = refl

@@ -1,3 +1,2 @@
--- The laws of checks in a row, and of a word by the layout of its kind.
-pub mod First
+-- A word checked by the layout of its kind.
 pub mod Layouts

@@ -1,65 +1,20 @@
 // The checks of one word by itself: its kind, then its fields; the operands that pass are marked on the way.
-mod layout;
-
-use crate::layout::Layout;
+use field_checks::blank_fault;
+use field_checks::first_of;
+use field_checks::layout;
+use field_checks::layout::Layout;
+use field_checks::letter_fault;
+use field_checks::operand_fault;
 use refusals::Outcome;
 use refusals::Refusal;
 use table::word;
-ghost use mathlib.Core.Path.{_≡_};
-ghost use mathlib.Core.Bool.{true};
 ghost use mathlib.Core.List.{[]};
 ghost use Prim.Native.Nat.{_≤_};
-ghost use lib.ListN.{length, set};
-ghost use Rattle.refusals.specs.Refusals.{first};
+ghost use lib.ListN.{length};
 ghost use Rattle.table.specs.Checks.{wordChecks};
-ghost use Rattle.fields.specs.Layout.{andThen, blankChecks, operandChecks, letterChecks, fieldChecks};
-ghost use Rattle.fields.specs.Marks.{markedBy, markedWith, Checked};
-
-// A field that must be 0.
-fn blank_fault(field: usize, n: usize) -> Outcome
-    ensures { λ r. ⌜ r ≡ first (blankChecks field n) ⌝ }
-{
-    if field != 0 {
-        return Outcome::Refused(Refusal::FieldNotZero(n));
-    }
-    Outcome::Accepted
-}
-
-fn operand_fault(operand: usize, n: usize, marks: &mut [bool]) -> Outcome
-    requires { ⌜ n ≤ length (now marks) ⌝ }
-    ensures { λ r. ⌜ Checked (operandChecks operand n) (set (now (marks .entry)) operand true) r (now (marks .exit)) ⌝ }
-{
-    if operand == 0 {
-        return Outcome::Refused(Refusal::OperandZero(n));
-    }
-    if n <= operand {
-        return Outcome::Refused(Refusal::OperandNotEarlier(n));
-    }
-    marks[operand] = true;
-    Outcome::Accepted
-}
-
-fn letter_fault(letter: usize, n: usize) -> Outcome
-    ensures { λ r. ⌜ r ≡ first (letterChecks letter n) ⌝ }
-{
-    if letter == 0 {
-        return Outcome::Refused(Refusal::LetterOutOfRange(n));
-    }
-    if 32 < letter {
-        return Outcome::Refused(Refusal::LetterOutOfRange(n));
-    }
-    Outcome::Accepted
-}
-
-// What was checked first decides, if it refuses.
-fn first_of(one: Outcome, other: Outcome) -> Outcome
-    ensures { λ r. ⌜ r ≡ andThen one other ⌝ }
-{
-    match one {
-        Outcome::Refused(r) => Outcome::Refused(r),
-        Outcome::Accepted => other,
-    }
-}
+ghost use Rattle.field_checks.specs.Field.{Checked};
+ghost use Rattle.fields.specs.Layout.{fieldChecks};
+ghost use Rattle.fields.specs.Marks.{markedBy, markedWith};
 
 fn field_fault(layout: Layout, left: usize, right: usize, n: usize, marks: &mut [bool]) -> Outcome
     requires { ⌜ n ≤ length (now marks) ⌝ }

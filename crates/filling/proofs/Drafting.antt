@@ -10,9 +10,10 @@ use Rattle.table.specs.Table.{formulaBy}
 use Rattle.table.specs.Checks.{isOperand, isProposition}
 use Rattle.slots.specs.Slot.{pack}
 use Rattle.draft.specs.Drafted.{SlotIs, Drafted}
-use Rattle.rewriting.specs.declared.Rewriting.{Rewriting}
-use Rattle.rewriting.specs.declared.Rewriting.the-variants.{Steady, Recurring, Opening}
-use Rattle.rewriting.specs.Slots.{by, place, slotBy, openLeft, openRight, globallySlot}
+use Rattle.form_places.specs.declared.Rewriting.{Rewriting}
+use Rattle.form_places.specs.declared.Rewriting.the-variants.{Steady, Recurring, Opening}
+use Rattle.form_places.specs.Places.{place, globallySlot}
+use Rattle.rewriting.specs.Slots.{by, slotBy, openLeft, openRight}
 
 -- a formula stands at slot j, which is before slot i
 abbrev Earlier : List ℕ → ℕ → Formula → ℕ → Type 0

@@ -2,7 +2,6 @@
 use Prim.Native.Nat.{ℕ, zero, suc, _+_, _*_, _^_, _≤_, _<_}
 use native.Mathlib.Omega.{arith}
 use native.Mathlib.Nat.{eq-or-lt-of-le, le-of-suc-le-suc}
-use native.Mathlib.Numerals.{add-one}
 use mathlib.Core.Path.{_≡_, refl, ap, _∙_, subst}
 use mathlib.Core.Logic.{_⊎_, inl, inr}
 use mathlib.Core.Bool.{Bool, true, false}
@@ -22,22 +21,22 @@ use Rattle.table.specs.Steps.{fixpoints}
 use Rattle.table.specs.StepChecks.{isFixpointWord}
 use Rattle.table.proofs.Accepted.{WellFormed, accepted-formula}
 use Rattle.draft.specs.Drafted.{SlotIs, Drafted}
-use Rattle.draft.proofs.Drafts.{drafted-below, slot-below}
-use Rattle.rewriting.specs.declared.Rewriting.{Rewriting}
-use Rattle.rewriting.specs.declared.Rewriting.the-variants.{Steady, Recurring, Opening}
-use Rattle.filling.specs.declared.conjuncts.Fixpoint.the-variants.{Least, Greatest}
-use Rattle.rewriting.specs.Slots.{by, place, wordBy, globallySlot, Plain, Rewritten, Slotted, WordChosen, WordFilled}
-use Rattle.filling.specs.Filled.{formOf, Laid, Chosen, Filled}
+use Rattle.draft.proofs.Drafts.{slot-below}
+use Rattle.form_places.specs.declared.Rewriting.{Rewriting}
+use Rattle.form_places.specs.declared.Rewriting.the-variants.{Steady, Recurring, Opening}
+use Rattle.conjuncts.specs.declared.Fixpoint.the-variants.{Least, Greatest}
+use Rattle.form_places.specs.Places.{place, globallySlot}
+use Rattle.rewriting.specs.Slots.{by, wordBy, Plain, Rewritten}
+use Rattle.word_slots.specs.WordSlots.{Slotted, WordChosen, WordFilled}
+use Rattle.conjuncts.specs.Filled.{formOf, Filled}
+use Rattle.conjuncts.proofs.Forms.{slot-at}
+use Rattle.filling.specs.Filled.{Laid, Chosen}
 use Rattle.logic.specs.Bit.{bit}
-use Rattle.fixpoints.specs.Positions.{bitOf, Kept}
-use Rattle.rewriting.proofs.Places.{place-fits, place-before}
+use Rattle.fixpoints.specs.Positions.{bitOf}
+use Rattle.form_places.proofs.Places.{place-fits, place-before}
 use Rattle.fixpoints.proofs.UntilLike.{member-fixpoint}
-use Rattle.filling.proofs.Members.{picked-word, not-picked}
+use Rattle.conjuncts.proofs.Members.{picked-word, not-picked}
 use Rattle.filling.proofs.Drafting.{Operands, Always, steady-drafted, recurring-drafted, opening-drafted, always-drafted}
-
--- a slot that is as it was said to be
-pub slot-at : {d : List ℕ} {i s : ℕ} → i < length d → getD d i 0 ≡ s → SlotIs d i s
-slot-at h e = record { within = h; is = e }
 
 -- the operands of a plain word are earlier words, and its letter is small
 left-fits : (s : Shape) (l n k : ℕ) → (isBlank (leftField s) ≡ true → l ≡ 0) → (isOperand (leftField s) ≡ true → (0 < l) × (l < n)) → place Opening n < k → place Opening l < k
@@ -67,15 +66,6 @@ word-plain {t = t} f {i} h k =
         right-fits = right-fits s (right (getD t i 0)) (suc i) (w .blank-right) (w .operand-right) (w .letter) k;
       };
     }
-
--- what stands before slot k stays where the slots before it do
-pub filled-later : {t : List ℕ} {c : ℕ} {d : List ℕ} (e : List ℕ) {i : ℕ} (k : ℕ) → Filled t c d i → place Opening i < k → k ≤ length e
-    → ((j : ℕ) → j < k → getD e j 0 ≡ getD d j 0) → Filled t c e i
-filled-later {t} {c} {d} e {i} k q h l same = record {
-  false-slot = slot-below d e k l same (omega arith) (q .false-slot);
-  true-slot = slot-below d e k l same (omega arith) (q .true-slot);
-  form = λ m j p r. drafted-below d e k l same (formOf m t c j) (place m j) (place-fits m j k (omega arith)) (q .form m j p r);
-}
 
 -- the slots of a word are as they were where they hold the same
 slotted-same : {w j : ℕ} {b : Bool} {d e : List ℕ} → ((i : ℕ) → place Steady j ≤ i → i ≤ place Opening j → getD e i 0 ≡ getD d i 0) → Slotted w j b d → Slotted w j b e
@@ -261,7 +251,3 @@ pub chosen-filled : {limit : ℕ} {t : List ℕ} → WellFormed true limit t →
     → (n : ℕ) → n ≤ length t → Filled t c d n
 chosen-filled f q long zero h = record { false-slot = q .laid .false-slot; true-slot = q .laid .true-slot; form = λ m j p l. absurd (omega arith) }
 chosen-filled f q long (suc n) h = filled-more f h (chosen-filled f q long n (omega arith)) (q .slots n h) (omega arith)
-
--- the bit of a word, by the position that is kept of it
-pub kept-bit : {t positions : List ℕ} (c : ℕ) {i : ℕ} {r : Bool} → Kept t positions (length t) → i < length t → r ≡ bit c (getD positions (i + 1) 0) → r ≡ bit c (bitOf t i)
-kept-bit c {i} q h x = x ∙ ap (bit c) (rw (add-one i) (q .position i h))

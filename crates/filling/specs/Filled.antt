@@ -4,26 +4,14 @@ use mathlib.Core.Path.{_≡_}
 use mathlib.Core.Bool.{Bool, true}
 use mathlib.Core.List.{List}
 use lib.ListN.{length, getD}
-use Rattle.logic.specs.Formula.{Formula}
-use Rattle.logic.specs.NormalForm.{member, leastOf, greatestOf}
 use Rattle.refusals.specs.declared.Outcome.the-variants.{Accepted}
-use Rattle.table.specs.Table.{formulas, formulaOf}
 use Rattle.table.specs.Steps.{fixpoints}
 use Rattle.table.specs.Checks.{checked}
 use Rattle.slots.specs.Slot.{pack}
-use Rattle.draft.specs.Drafted.{SlotIs, Drafted}
-use Rattle.rewriting.specs.declared.Rewriting.{Rewriting}
-use Rattle.rewriting.specs.Slots.{by, place, Slotted}
+use Rattle.draft.specs.Drafted.{SlotIs}
+use Rattle.word_slots.specs.WordSlots.{Slotted}
 use Rattle.logic.specs.Bit.{bit}
 use Rattle.fixpoints.specs.Positions.{bitOf, Kept}
-
--- a formula rewritten by choice c of table t
-abbrev pub rewritten : Rewriting → List ℕ → ℕ → Formula → Formula
-rewritten m t c φ = by m (member (leastOf (fixpoints t) c)) (member (greatestOf (fixpoints t) c)) φ
-
--- that of word j
-abbrev pub formOf : Rewriting → List ℕ → ℕ → ℕ → Formula
-formOf m t c j = rewritten m t c (formulaOf (formulas t) j)
 
 -- the most slots that the draft of a choice can have, of n words of which k are until-like
 abbrev pub slotsFor : ℕ → ℕ → ℕ
@@ -55,9 +43,3 @@ pub record Fillable (t positions d : List ℕ) : Type 0 where
   pub room : Roomy t d
   pub kept : Kept t positions (length t)
   pub laid : Laid t d (length t)
-
--- the forms of the first i words, after the two constants
-pub record Filled (t : List ℕ) (c : ℕ) (d : List ℕ) (i : ℕ) : Type 0 where
-  pub false-slot : SlotIs d 0 (pack 1 0 0)
-  pub true-slot : SlotIs d 1 (pack 2 0 0)
-  pub form : (m : Rewriting) (j : ℕ) → 0 < j → j ≤ i → Drafted d (formOf m t c j) (place m j)

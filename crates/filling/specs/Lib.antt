@@ -1,3 +1,2 @@
--- A choice's draft: the forms of all words, and the conjuncts after them.
+-- A choice's draft: the forms of all words.
 pub mod Filled
-pub mod Conjunct

@@ -1,5 +1,5 @@
 // A choice's draft: the three forms of each word, and the rule's part after them.
-use crate::conjuncts::Fixpoint;
+use conjuncts::Fixpoint;
 use slots::slot;
 use table::kinds;
 ghost use lib.ListN.{length};
@@ -9,18 +9,16 @@ ghost use Rattle.table.specs.Steps as steps;
 ghost use Rattle.draft.specs.Drafted.{Drafted};
 ghost use Rattle.filling.specs.Filled.{Roomy, Laid, Chosen, Fillable};
 
-pub mod conjuncts;
-
 // The slots of the two constants and of all words, none of them chosen.
 pub fn fill_words(table: &[u32], draft: &mut [u64])
     requires { ⌜ Roomy (now table) (now draft) ⌝ }
     ensures { λ r. ⌜ Laid (now (table .entry)) (now (draft .exit)) (length (now (table .entry))) ⌝ }
 {
-    draft[rewriting::FALSE_SLOT] = slot::pack(kinds::FALSE, 0, 0);
-    draft[rewriting::TRUE_SLOT] = slot::pack(kinds::TRUE, 0, 0);
+    draft[form_places::FALSE_SLOT] = slot::pack(kinds::FALSE, 0, 0);
+    draft[form_places::TRUE_SLOT] = slot::pack(kinds::TRUE, 0, 0);
     let mut i = 0;
     while i < table.len() {
-        rewriting::fill_word(table[i], i + 1, draft);
+        word_slots::fill_word(table[i], i + 1, draft);
         i += 1;
     }
 }
@@ -34,7 +32,7 @@ pub fn choose_words(table: &[u32], positions: &[u8], choice: u32, draft: &mut [u
     while i < table.len() {
         if fixpoints::is_fixpoint(table[i]) {
             let chosen = fixpoints::chosen(positions, choice, i + 1);
-            rewriting::choose_word(table[i], i + 1, chosen, draft);
+            word_slots::choose_word(table[i], i + 1, chosen, draft);
         }
         i += 1;
     }

@@ -3,6 +3,7 @@ use Prim.Native.Nat.{ℕ, _+_, _*_, _-_, _/_, _%_, _^_, _≤_, _<_, min}
 use native.Mathlib.Omega.{arith}
 use native.Mathlib.Nat.{mul-le-mul}
 use mathlib.Core.Path.{_≡_, ap, _∙_}
+use mathlib.Core.Bool.{true}
 use mathlib.Core.List.{List, _++_}
 use lib.ListN.{length, take, drop, replicate, length-replicate, length-take}
 use lib.Pow.{pow-mono, shl-exact}
@@ -13,13 +14,14 @@ use Rattle.filling.specs.Filled.{draftSize}
 use Rattle.fixpoints.specs.Positions.{Kept}
 use Rattle.table.specs.Numbering.{build}
 use Rattle.table.specs.Steps.{fixpoints, normalTable}
-use Rattle.placing.specs.State.{State, state, count, written, Placing}
+use Rattle.numbering.proofs.Accepted.{rule-small}
+use Rattle.placing.specs.State.{State, state, written, Placing}
 use Rattle.placing.specs.Written.{Written}
 use Rattle.placing.proofs.Putting.{numbered-none}
-use Rattle.placing.proofs.Written.{written-none, written-all, written-part}
+use Rattle.placing.proofs.Written.{written-all, written-part}
 use Rattle.choices.specs.Growing.{Formable}
 use Rattle.forms.specs.Forms.{mostWords, mostSlots, Accepted, Positioned, Sized}
-use Rattle.normal_laws.proofs.Promise.{normal-length}
+use Rattle.normal_laws.proofs.Promise.{form-letters, normal-length}
 
 -- what a form is asked with, in each tier
 pub formable : {t positions : List ℕ} {bits : ℕ} {out : List ℕ} (slots m words : ℕ) → Positioned t positions bits × Sized t slots out words → slots ≤ mostSlots → words < m / 2 → m ≤ 32768
@@ -40,15 +42,11 @@ formable {out = out} slots m words q s h l = record {
 }
 
 -- the form was placed after no words
-module _ (t : List ℕ) {out : List ℕ} (m : ℕ) {e : State} {r : ℕ}
-    (p : Placing (state out (replicate m 0)) e (build (written (state out (replicate m 0))) (normalForm (fixpoints t) (rule t))) r) where
-  pub formed-none : r ≡ 0 → Written (normalTable t) out (e .out) 0
-  unfolding normalTable
-  formed-none z = written-none (normalForm (fixpoints t) (rule t)) p (getD-zeros m 0) z
-
-  pub formed-some : (r ≡ 0 → ⊥) → {n : ℕ} → n ≡ count e → Written (normalTable t) out (e .out) n
-  unfolding normalTable
-  formed-some z k = rw k (written-all (normalForm (fixpoints t) (rule t)) p (getD-zeros m 0) z)
+pub formed : {t out : List ℕ} → Accepted t → (m : ℕ) {e : State} {r : ℕ}
+    → Placing (state out (replicate m 0)) e (build (written (state out (replicate m 0))) (normalForm (fixpoints t) (rule t))) r → Written (normalTable t) out (e .out) r
+unfolding normalTable
+formed {t} q m p =
+    written-all (normalForm (fixpoints t) (rule t)) (form-letters (q .limit) t (q .accepted) (omega (arith, q .short)) (λ p. p < 16384) (rule-small true (q .limit) t (q .accepted))) p (getD-zeros m 0)
 
 -- a part of the slice that is as long as the form can need serves as the whole
 pub formed-part : {t : List ℕ} → Accepted t → (result : List ℕ) {e : List ℕ} {cap r : ℕ} → cap ≡ min (mostWords (length t) (length (fixpoints t))) (length result)

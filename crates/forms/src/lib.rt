@@ -31,7 +31,7 @@ pub fn small(table: &[u32], positions: &[u8], bits: u32, out: &mut [u32]) -> usi
     let mut numbers = [0u16; SHORT_SLOTS];
     let mut stack = [0u16; SHORT_SLOTS];
     let mut index = [0u16; 2048];
-    let root = choices::form(
+    choices::form(
         table,
         positions,
         bits,
@@ -40,11 +40,7 @@ pub fn small(table: &[u32], positions: &[u8], bits: u32, out: &mut [u32]) -> usi
         &mut stack,
         out,
         &mut index,
-    );
-    if root == 0 {
-        return 0;
-    }
-    lookup::count(&index)
+    )
 }
 
 // A form of at most as many words as a desk's program has room for.
@@ -56,7 +52,7 @@ pub fn middle(table: &[u32], positions: &[u8], bits: u32, out: &mut [u32]) -> us
     let mut numbers = [0u16; SLOTS];
     let mut stack = [0u16; SLOTS];
     let mut index = [0u16; 8194];
-    let root = choices::form(
+    choices::form(
         table,
         positions,
         bits,
@@ -65,11 +61,7 @@ pub fn middle(table: &[u32], positions: &[u8], bits: u32, out: &mut [u32]) -> us
         &mut stack,
         out,
         &mut index,
-    );
-    if root == 0 {
-        return 0;
-    }
-    lookup::count(&index)
+    )
 }
 
 // Any form.
@@ -81,7 +73,7 @@ pub fn large(table: &[u32], positions: &[u8], bits: u32, out: &mut [u32]) -> usi
     let mut numbers = [0u16; SLOTS];
     let mut stack = [0u16; SLOTS];
     let mut index = [0u16; 32768];
-    let root = choices::form(
+    choices::form(
         table,
         positions,
         bits,
@@ -90,11 +82,7 @@ pub fn large(table: &[u32], positions: &[u8], bits: u32, out: &mut [u32]) -> usi
         &mut stack,
         out,
         &mut index,
-    );
-    if root == 0 {
-        return 0;
-    }
-    lookup::count(&index)
+    )
 }
 
 // The number of words of the form, which stand at the front of the result, or 0 where they do not fit.

@@ -1,3 +1,4 @@
 -- What the plain-form step promises.
 pub mod Promise
 pub mod Step
+pub mod Start

@@ -28,8 +28,7 @@ use Rattle.draft.specs.Numberable.{Numberable}
 use Rattle.placing.proofs.Putting.{numbered-none}
 use Rattle.placing.proofs.Written.{written-part, ends-refused, ends-too-long, ends-made}
 use Rattle.draft.proofs.Remembering.{remembered-none}
-use Rattle.nnf.specs.Writable.{slots, Writable}
-use Rattle.plain_draft.specs.Forming.{Empty}
+use Rattle.nnf.specs.Writable.{slots, Writable, Empty}
 use Rattle.nnf.proofs.Promise.{plain-short}
 
 -- what drafting and numbering are asked with, in slots that are all 0

@@ -1,18 +1,22 @@
 // The plain-form step: a written table goes in, and its plain form's table comes out at the front of the result.
 use draft::number;
-use placing::put;
 use refusals::Outcome;
 use refusals::Refusal;
+use slots::slot;
 use table::answer::Answer;
 use table::limits::Limits;
 ghost use mathlib.Core.Path.{_≡_};
 ghost use Prim.Native.Nat.{_≤_, min};
+ghost use mathlib.Core.Bool.{true};
 ghost use lib.ListN.{length};
+ghost use Rattle.logic.specs.NegationNormalForm.{plain};
+ghost use Rattle.table.specs.Table.{rule};
+ghost use Rattle.draft.specs.Drafted.{Drafted};
 ghost use Rattle.table.specs.Limits.{desk, plainLimit};
 ghost use Rattle.table.specs.Frame.{plainStep, answerOf, resultOf};
 ghost use Rattle.table.specs.Steps.{plainTable};
 ghost use Rattle.placing.specs.Written.{Written};
-ghost use Rattle.nnf.specs.Writable.{slots, Writable};
+ghost use Rattle.nnf.specs.Writable.{slots, Writable, Empty};
 
 // Two slots for each of 64 written words, and the constants.
 const SLOTS: usize = 130;
@@ -36,7 +40,7 @@ fn plain_form_within(limits: Limits, table: &[u32], result: &mut [u32]) -> Answe
             let lent = lesser(result.len(), 2 * limits.written + 2);
             let n = write(table, &mut result[..lent]);
             if n == 0 {
-                put::clear(result);
+                clearing::words(result);
                 return Answer::Refused(Refusal::ResultTooShort);
             }
             Answer::Made(n)
@@ -50,19 +54,25 @@ fn lesser(a: usize, b: usize) -> usize
     if a < b { a } else { b }
 }
 
+// The draft of the whole rule, in slots that are all empty: the slot of its plain form.
+fn draft_rule(table: &[u32], draft: &mut [u64]) -> usize
+    requires { ⌜ Empty (now table) (now draft) ⌝ }
+    ensures { λ r. ⌜ Drafted (now (draft .exit)) (plain true (rule (now (table .entry)))) r ⌝ }
+{
+    slot::store(&mut *draft, plain_draft::FALSE, 1, 0, 0);
+    slot::store(&mut *draft, plain_draft::TRUE, 2, 0, 0);
+    plain_draft::wanted(table, draft, table.len())
+}
+
 // The plain form's table at the front of the result, and its length; 0 where it does not fit.
 fn write(table: &[u32], result: &mut [u32]) -> usize
     requires { ⌜ Writable (now table) (now result) ⌝ }
     ensures { λ r. ⌜ Written (plainTable (now (table .entry))) (now (result .entry)) (now (result .exit)) r ⌝ }
 {
     let mut draft = [0u64; SLOTS];
-    let root = plain_draft::draft_rule(table, &mut draft);
+    let root = draft_rule(table, &mut draft);
     let mut numbers = [0u16; SLOTS];
     let mut stack = [0u16; SLOTS];
     let mut index = [0u16; 2 * SLOTS + 2];
-    let last = number::number(&draft, root, &mut numbers, &mut stack, result, &mut index);
-    if last == 0 {
-        return 0;
-    }
-    lookup::count(&index)
+    number::number(&draft, root, &mut numbers, &mut stack, result, &mut index)
 }

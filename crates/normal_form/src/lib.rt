@@ -1,5 +1,4 @@
 // The normal-form step: a plain table goes in, and its normal form's table comes out at the front of the result.
-use placing::put;
 use refusals::Outcome;
 use refusals::Refusal;
 use table::answer::Answer;
@@ -23,7 +22,7 @@ pub fn normalise(table: &[u32], result: &mut [u32]) -> Answer
             }
             let n = forms::form(table, result);
             if n == 0 {
-                put::clear(result);
+                clearing::words(result);
                 return Answer::Refused(Refusal::ResultTooShort);
             }
             Answer::Made(n)

@@ -31,7 +31,7 @@ module _ (limit : ℕ) (t : List ℕ) (ok : checked true limit t ≡ Accepted) (
   formed = accepted-well-formed true limit t ok
 
   -- the form has no letters but those of the rule
-  form-letters : (Q : ℕ → Type 0) → Letters Q (rule t) → Letters Q (normalForm (fixpoints t) (rule t))
+  pub form-letters : (Q : ℕ → Type 0) → Letters Q (rule t) → Letters Q (normalForm (fixpoints t) (rule t))
   form-letters Q l = normalForm-letters Q (fixpoints t) (rule t) (λ ψ m. letters-sub Q (fixpoints-number small formed .inside ψ m) l) l
 
   -- n words of which k are until-like have a form of at most 2 ^ k * (5 n + 3 k + 1) + 2 words

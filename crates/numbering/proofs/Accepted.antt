@@ -16,7 +16,9 @@ use Rattle.table.specs.Checks.{isBlank, isOperand, isProposition, occurs, check
 use Rattle.table.specs.Numbering.{tableOf}
 use Rattle.table.proofs.Fields.{kind-pack, left-pack, right-pack}
 use Rattle.table.proofs.Shapes.{shape-constant, shape-letter, shape-unary, shape-binary}
-use Rattle.table.proofs.Accepted.{WellFormedWord, none-occurs, well-formed-accepted}
+use Rattle.table.proofs.Accepted.{WellFormedWord, none-occurs, well-formed-accepted, accepted-well-formed}
+use Rattle.table.proofs.Letters.{formula-letters}
+use Rattle.table.specs.Table.{rule}
 use Rattle.numbering.specs.Held.{Distinct}
 use Rattle.logic.specs.Letters.{Letters}
 use Rattle.numbering.proofs.Building.{tableOf-distinct, tableOf-long, held-within}
@@ -106,6 +108,13 @@ plain-small (const b) h = tt
 plain-small (lit b p) h = omega arith
 plain-small (un o a) h = plain-small a h
 plain-small (bin o a b) h = (plain-small a (h .0), plain-small b (h .1))
+
+-- the letters of an accepted table fit the fields of its words
+pub rule-small : (b : Bool) (limit : ℕ) (t : List ℕ) → checked b limit t ≡ Accepted → Letters (λ p. p < 16384) (rule t)
+unfolding rule
+rule-small b limit t ok =
+    let f = accepted-well-formed b limit t ok in
+    formula-letters (λ p. p < 16384) f (λ i h p. omega (arith, f .word i h .letter p)) (length t) (omega arith)
 
 no : {A : Type 0} → false ≡ true → A
 no e = absurd (false≢true e)

@@ -1,7 +1,6 @@
 // The part of a choice: drafted, then numbered.
 use draft::number;
-ghost use mathlib.Core.Path.{_≡_};
-ghost use lib.ListN.{length, replicate};
+ghost use lib.ListN.{length};
 ghost use Rattle.logic.specs.NormalForm as normal;
 ghost use Rattle.table.specs.Numbering.{build};
 ghost use Rattle.table.specs.Table.{rule};
@@ -9,17 +8,6 @@ ghost use Rattle.table.specs.Steps as steps;
 ghost use Rattle.placing.specs.State.{state, written, Placing};
 ghost use Rattle.filling.specs.Filled.{Laid};
 ghost use Rattle.parts.specs.Ready.{Ready};
-
-// No slot has a number.
-pub fn forget(numbers: &mut [u16])
-    ensures { λ r. ⌜ now (numbers .exit) ≡ replicate (length (now (numbers .entry))) 0 ⌝ }
-{
-    let mut i = 0;
-    while i < numbers.len() {
-        numbers[i] = 0;
-        i += 1;
-    }
-}
 
 pub fn part(
     table: &[u32],
@@ -40,6 +28,6 @@ pub fn part(
     ensures { λ r. ⌜ Laid (now (table .entry)) (now (draft .exit)) (length (now (table .entry))) ⌝ }
 {
     let root = filling::fill(table, positions, choice, draft);
-    forget(numbers);
+    clearing::numbers(numbers);
     number::number(draft, root, numbers, stack, out, index)
 }

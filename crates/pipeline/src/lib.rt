@@ -2,7 +2,7 @@
 // it answered.
 use table::answer::Answer;
 ghost use Rattle.table.specs.Limits.{desk};
-ghost use Rattle.pipeline.specs.Claim.{Claim};
+ghost use Rattle.claims.specs.Claim.{Claim};
 
 pub fn normal_form(table: &[u32], plain: &mut [u32], form: &mut [u32]) -> Answer
     ensures { λ r. ⌜ Claim

@@ -1,42 +1,40 @@
 -- A formula's table written to a slice, or to a part of one, and how a step ends then.
 use Prim.Native.Nat.{ℕ, _≤_, _<_, min}
 use native.Mathlib.Omega.{arith}
-use mathlib.Core.Path.{_≡_, refl, sym, ap, _∙_}
-use mathlib.Core.Bool.{true, false}
+use mathlib.Core.Path.{_≡_, sym, ap, _∙_}
+use mathlib.Core.Bool.{false}
 use mathlib.Core.List.{List, [], _++_, append-assoc}
 use lib.ListN.{length, take, drop, replicate, take-append-drop}
 use lib.Seq.{length-take-le, drop-append-le}
 use Rattle.logic.specs.Formula.{Formula}
+use Rattle.logic.specs.Letters.{Letters}
 use Rattle.refusals.specs.declared.Refusal.{Refusal}
 use Rattle.refusals.specs.declared.Refusal.the-variants.{ResultTooShort}
 use Rattle.refusals.specs.declared.Outcome.the-variants as outcome
 use Rattle.table.specs.declared.answer.Answer.the-variants.{Made, Refused}
 use Rattle.refusals.specs.Refusals.{first}
-use Rattle.table.specs.Frame.{Step, answerOf, resultOf}
+use Rattle.table.specs.Frame.{Step}
 use Rattle.table.specs.Numbering.{fits, build, tableOf}
 use Rattle.table.proofs.Frame.{Early, refused-answer, refused-result, too-long-answer, too-long-result, made-answer, made-result}
+use Rattle.numbering.proofs.Used.{number-last}
 use Rattle.placing.specs.State.{State, count, written, Placing}
 use Rattle.placing.specs.Written.{Fitting, Written, Ends}
 use Rattle.placing.proofs.Putting.{fits-true, fits-false}
-use Rattle.placing.proofs.Placing.{true-fits, false-fits, placing-fits, placing-unfit, build-positive, placing-whole, whole-count, whole-out}
+use Rattle.placing.proofs.Placing.{true-fits, false-fits, placing-fits, placing-unfit, build-positive, placing-whole, whole-out}
 
--- what was numbered from no words is the formula's table
-module _ (φ : Formula) {s e : State} {n : ℕ} (q : Placing s e (build (written s) φ) n) (z : count s ≡ 0) where
-  pub written-none : n ≡ 0 → Written (tableOf φ) (s .out) (e .out) 0
+-- what was numbered from no words is the formula's table, whose last word is the formula's own
+module _ (φ : Formula) (small : Letters (λ p. p < 16384) φ) {s e : State} {n : ℕ} (q : Placing s e (build (written s) φ) n) (z : count s ≡ 0) where
+  pub written-all : Written (tableOf φ) (s .out) (e .out) n
   unfolding tableOf
-  written-none h = record {
-    unfit = λ p. placing-unfit (placing-whole φ q z) h (build-positive [] φ);
-    fit = λ p. absurd (p refl);
-  }
-
-  fits-out : (n ≡ 0 → ⊥) → fits (length (tableOf φ)) (length (s .out)) ≡ true
-  unfolding tableOf
-  fits-out h = placing-fits (placing-whole φ q z) (omega (arith, h))
-
-  pub written-all : (n ≡ 0 → ⊥) → Written (tableOf φ) (s .out) (e .out) (count e)
-  written-all h = record {
-    unfit = λ p. absurd (omega (arith, h, q .within));
-    fit = λ p. record { fitting = fits-out h; long = whole-count φ q z (fits-out h); words = whole-out φ q z (fits-out h) };
+  written-all = record {
+    unfit = λ h. placing-unfit (placing-whole φ q z) h (build-positive [] φ);
+    fit = λ h.
+        let f = placing-fits (placing-whole φ q z) (omega (arith, h)) in
+        record {
+          fitting = f;
+          long = placing-whole φ q z .answer f ∙ number-last φ small (omega (arith, true-fits _ _ f));
+          words = whole-out φ q z f;
+        };
   }
 
 -- a table of at most `most` words, written to so much of a slice: it fits the part exactly where it fits the slice

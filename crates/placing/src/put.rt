@@ -1,6 +1,4 @@
 // Words numbered as first needed, an identical word used again: the table so far stands at the front of the slice, its words in the index.
-ghost use mathlib.Core.Path.{_≡_};
-ghost use lib.ListN.{length, replicate};
 ghost use Rattle.table.specs.Numbering as numbering;
 ghost use Rattle.placing.specs.State.{Numbered, Putting, state, written};
 
@@ -27,15 +25,4 @@ pub fn put(out: &mut [u32], index: &mut [u16], w: u32) -> usize
     out[n] = w;
     lookup::add(&mut *index, w);
     n + 1
-}
-
-// The words of a result that is refused.
-pub fn clear(out: &mut [u32])
-    ensures { λ r. ⌜ now (out .exit) ≡ replicate (length (now (out .entry))) 0 ⌝ }
-{
-    let mut i = 0;
-    while i < out.len() {
-        out[i] = 0;
-        i += 1;
-    }
 }

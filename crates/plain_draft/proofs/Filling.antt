@@ -12,10 +12,10 @@ use Rattle.logic.specs.Formula.{Formula, const, lit, un, bin}
 use Rattle.logic.specs.NegationNormalForm as form
 use Rattle.table.specs.Node.{Shape, constant, letter, unary, binary, kindOf}
 use Rattle.table.specs.Table.{formulaOf}
-use Rattle.slots.specs.Slot.{pack}
+use Rattle.slots.specs.Slot.{pack, Stored}
 use Rattle.draft.specs.Drafted.{SlotIs, Drafted}
 use Rattle.source.specs.Source.{Earlier}
-use Rattle.plain_draft.specs.Forming.{formOf, slotOf, Filled, Asked, Formed, Stored}
+use Rattle.plain_draft.specs.Forming.{formOf, slotOf, Filled, Asked, Formed}
 use Rattle.plain_draft.proofs.Shapes.{isWord, kind-positive}
 
 -- different forms have different slots

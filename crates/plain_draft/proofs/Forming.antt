@@ -11,12 +11,12 @@ use Rattle.table.specs.Node.{shape, unaryKind, binaryKind, leftField, rightFiel
 use Rattle.table.specs.Table.{formulas, formulaOf}
 use Rattle.table.specs.Checks.{isOperand}
 use Rattle.table.proofs.Shapes.{shape-unary, shape-binary, kindOf-shape}
-use Rattle.slots.specs.Slot.{pack}
+use Rattle.slots.specs.Slot.{pack, Stored}
 use Rattle.draft.specs.Drafted.{Drafted}
 use Rattle.draft.proofs.Drafts.{slot-set}
-use Rattle.plain_draft.specs.Kinds.{signedKind}
+use Rattle.source.specs.Kinds.{signedKind}
 use Rattle.source.specs.Source.{Earlier, WordAt}
-use Rattle.plain_draft.specs.Forming.{formOf, slotOf, Asked, Formed, Stored}
+use Rattle.plain_draft.specs.Forming.{formOf, slotOf, Asked, Formed}
 use Rattle.plain_draft.proofs.Shapes.{leaf-by, IsOperator, Operator, operator-by}
 use Rattle.plain_draft.proofs.Filling.{slot-bounds, slot-inside, drafted-kept, stored-form, formed-then, asked-then, constant-form, constant-formed}
 

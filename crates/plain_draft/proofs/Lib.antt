@@ -2,4 +2,3 @@
 pub mod Shapes
 pub mod Filling
 pub mod Forming
-pub mod Start

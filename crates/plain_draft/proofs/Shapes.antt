@@ -13,7 +13,7 @@ use Rattle.table.specs.Checks.{isOperand, isBlank}
 use Rattle.table.proofs.Shapes.{shape-kindOf, kindOf-shape}
 use Rattle.slots.specs.Slot.{pack}
 use Rattle.draft.specs.Drafted.{SlotIs, Drafted}
-use Rattle.plain_draft.specs.Kinds.{signed, signedKind}
+use Rattle.source.specs.Kinds.{signed, signedKind}
 
 -- a wanted form puts the word's own kind
 signed-true : (s : Shape) → signed true s ≡ s
@@ -75,6 +75,17 @@ pub record IsOperator (k : ℕ) : Type 0 where
   pub no-finally : k ≡ 13 → ⊥
   pub no-globally : k ≡ 14 → ⊥
   pub no-implies : k ≡ 15 → ⊥
+
+-- as the last arm of a match on the kind is reached
+pub last-arm : {A : Type 0} {k : ℕ} → 5 ≤ k → ((((A × (k ≡ 7 → ⊥)) × (k ≡ 12 → ⊥)) × (k ≡ 13 → ⊥)) × (k ≡ 14 → ⊥)) × (k ≡ 15 → ⊥) → IsOperator k
+last-arm h rest = record {
+  above = h;
+  no-next = rest .0 .0 .0 .0 .1;
+  no-not = rest .0 .0 .0 .1;
+  no-finally = rest .0 .0 .1;
+  no-globally = rest .0 .1;
+  no-implies = rest .1;
+}
 
 -- and, or, U, W, R or M: the operator that its form has, over the forms of its operands
 pub record Operator (p : Bool) (s : Shape) : Type 0 where

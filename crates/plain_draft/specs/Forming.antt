@@ -3,12 +3,10 @@ use Prim.Native.Nat.{ℕ, _+_, _*_, _<_, _≤_}
 use mathlib.Core.Path.{_≡_}
 use mathlib.Core.Bool.{Bool, true, false}
 use mathlib.Core.List.{List}
-use lib.ListN.{length, getD, set}
+use lib.ListN.{length, getD}
 use Rattle.logic.specs.Formula.{Formula}
 use Rattle.logic.specs.NegationNormalForm.{plain}
-use Rattle.refusals.specs.declared.Outcome.the-variants.{Accepted}
 use Rattle.table.specs.Table.{formulas, formulaOf}
-use Rattle.table.specs.Checks.{checked}
 use Rattle.draft.specs.Drafted.{Drafted}
 use Rattle.source.specs.Source.{Inside}
 
@@ -26,14 +24,6 @@ pub record Filled (t d : List ℕ) : Type 0 where
   pub constant : (p : Bool) → Drafted d (formOf p t 0) (slotOf p 0)
   pub form : (p : Bool) (j : ℕ) → (getD d (slotOf p j) 0 ≡ 0 → ⊥) → Drafted d (formOf p t j) (slotOf p j)
 
--- an accepted table, and a draft for its forms with nothing in it
-pub record Empty (t d : List ℕ) : Type 0 where
-  pub limit : ℕ
-  pub accepted : checked false limit t ≡ Accepted
-  pub slots : 2 * length t + 2 ≤ length d
-  pub few : length d ≤ 65536
-  pub empty : (i : ℕ) → getD d i 0 ≡ 0
-
 -- what a form is asked with
 pub record Asked (t d : List ℕ) (j : ℕ) : Type 0 where
   pub word : Inside t j
@@ -50,8 +40,3 @@ pub record Formed (p : Bool) (t : List ℕ) (j : ℕ) (d e : List ℕ) (r : ℕ)
   pub filled : Filled t e
   pub kept : (φ : Formula) (i : ℕ) → Drafted d φ i → Drafted e φ i
   pub later : (i : ℕ) → 2 * j + 2 ≤ i → getD e i 0 ≡ getD d i 0
-
--- slot i of d is set to s, and r answers the slot
-pub record Stored (d e : List ℕ) (i s r : ℕ) : Type 0 where
-  pub set : e ≡ set d i s
-  pub answer : r ≡ i

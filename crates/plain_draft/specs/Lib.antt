@@ -1,3 +1,2 @@
 -- What the draft of a plain form is.
-pub mod Kinds
 pub mod Forming

@@ -45,7 +45,7 @@ fn answer(table: &[u32], as_text: bool) {
 // The words of at most 65, one more than a rule may have, so that a longer input is refused as a table.
 fn answer_bytes(bytes: &[u8], as_text: bool) {
     let mut words = [0u32; 65];
-    let n = listing::decode(bytes, &mut words);
+    let n = decoding::decode(bytes, &mut words);
     let table: &[u32] = &words;
     if n <= table.len() {
         answer(&table[0..n], as_text);
@@ -56,7 +56,7 @@ fn table(as_text: bool) {
     let mut bytes = [0u8; 260];
     let n = io::read_full(0, &mut bytes);
     let odd = rest();
-    match listing::check_input(n, odd) {
+    match decoding::check_input(n, odd) {
         Outcome::Refused(r) => refused(r),
         Outcome::Accepted => {
             let whole: &[u8] = &bytes;

@@ -11,9 +11,10 @@ use Rattle.table.specs.Node.{Shape, constant, letter, unary, binary, kind, left
 use Rattle.table.specs.Table.{formulaBy}
 use Rattle.table.proofs.Shapes.{shape-unary, shape-binary, kindOf-shape}
 use Rattle.slots.specs.Slot.{pack}
-use Rattle.rewriting.specs.declared.Rewriting.{Rewriting}
-use Rattle.rewriting.specs.declared.Rewriting.the-variants.{Steady, Recurring, Opening}
-use Rattle.rewriting.specs.Slots.{by, place, slotBy, leftBy, rightBy, openLeft, openRight, globallySlot, Rewritten, OpeningSlot, AlwaysSlot, EitherSlot}
+use Rattle.form_places.specs.declared.Rewriting.{Rewriting}
+use Rattle.form_places.specs.declared.Rewriting.the-variants.{Steady, Recurring, Opening}
+use Rattle.form_places.specs.Places.{place, globallySlot}
+use Rattle.rewriting.specs.Slots.{by, slotBy, leftBy, rightBy, openLeft, openRight, Rewritten, OpeningSlot, AlwaysSlot, EitherSlot}
 use Rattle.table.proofs.KindRanges.{constants, letters, operators}
 
 -- no rewriting changes a constant, a letter or X

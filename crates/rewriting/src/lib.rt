@@ -1,78 +1,21 @@
 // The three rewritings of a word, as slots of a choice's draft.
-//
-// The first slots are the two constants. Words are numbered from 1, and word j has five slots from 5 j on: its steady form, its
-// recurring form, a G and an or that the opening form of W or R is made of, and its opening form.
+use form_places::Rewriting;
+use form_places::globally;
+use form_places::next;
+use form_places::operator;
+use form_places::place;
 use slots::slot;
 use table::kinds;
 use table::word;
 ghost use Prim.Native.Nat.{_<_};
-ghost use mathlib.Core.Path.{_≡_};
 ghost use Rattle.table.specs.Node as node;
-ghost use Rattle.slots.specs.Slot as slots;
+ghost use Rattle.form_places.specs.Places as places;
 ghost use Rattle.rewriting.specs.Slots as specs;
-
-pub const FALSE_SLOT: usize = 0;
-
-pub const TRUE_SLOT: usize = 1;
-
-pub enum Rewriting {
-    Steady,
-    Recurring,
-    Opening,
-}
-
-// The slot of word j rewritten.
-pub fn place(rewriting: Rewriting, j: usize) -> usize
-    requires { ⌜ j < 16384 ⌝ }
-    ensures { λ r. ⌜ r ≡ specs.place rewriting j ⌝ }
-{
-    match rewriting {
-        Rewriting::Steady => 5 * j,
-        Rewriting::Recurring => 5 * j + 1,
-        Rewriting::Opening => 5 * j + 4,
-    }
-}
-
-// G over slot i.
-pub fn globally(i: usize) -> u64
-    requires { ⌜ i < 65536 ⌝ }
-    ensures { λ r. ⌜ r ≡ specs.globallySlot i ⌝ }
-{
-    slot::pack(kinds::RELEASE, FALSE_SLOT, i)
-}
-
-// F over slot i.
-pub fn finally(i: usize) -> u64
-    requires { ⌜ i < 65536 ⌝ }
-    ensures { λ r. ⌜ r ≡ specs.finallySlot i ⌝ }
-{
-    slot::pack(kinds::UNTIL, TRUE_SLOT, i)
-}
-
-// An operator over the same rewriting of the operands of w.
-pub fn operator(rewriting: Rewriting, kind: u32, w: u32) -> u64
-    requires { ⌜ (kind < 16) × specs.Narrow w ⌝ }
-    ensures { λ r. ⌜ r ≡ slots.pack kind (specs.place rewriting (node.left w)) (specs.place rewriting (node.right w)) ⌝ }
-{
-    slot::pack(
-        kind,
-        place(rewriting, word::left(w)),
-        place(rewriting, word::right(w)),
-    )
-}
-
-// X over the same rewriting of the operand of w.
-pub fn next(rewriting: Rewriting, w: u32) -> u64
-    requires { ⌜ specs.Narrow w ⌝ }
-    ensures { λ r. ⌜ r ≡ slots.pack 7 0 (specs.place rewriting (node.right w)) ⌝ }
-{
-    slot::pack(kinds::NEXT, 0, place(rewriting, word::right(w)))
-}
 
 // A chosen U becomes W, a chosen M becomes R, and one that is not chosen becomes false.
 pub fn steady(w: u32, chosen: bool) -> u64
     requires { ⌜ specs.Plain w ⌝ }
-    ensures { λ r. ⌜ specs.Rewritten Rewriting.Steady w chosen (specs.place Rewriting.Steady (node.left w)) (specs.place Rewriting.Steady (node.right w)) r ⌝ }
+    ensures { λ r. ⌜ specs.Rewritten Rewriting.Steady w chosen (places.place Rewriting.Steady (node.left w)) (places.place Rewriting.Steady (node.right w)) r ⌝ }
 {
     let kind = word::kind(w);
     match kind {
@@ -101,7 +44,7 @@ pub fn steady(w: u32, chosen: bool) -> u64
 // A chosen W or R becomes true, and one that is not chosen becomes U or M.
 pub fn recurring(w: u32, chosen: bool) -> u64
     requires { ⌜ specs.Plain w ⌝ }
-    ensures { λ r. ⌜ specs.Rewritten Rewriting.Recurring w chosen (specs.place Rewriting.Recurring (node.left w)) (specs.place Rewriting.Recurring (node.right w)) r ⌝ }
+    ensures { λ r. ⌜ specs.Rewritten Rewriting.Recurring w chosen (places.place Rewriting.Recurring (node.left w)) (places.place Rewriting.Recurring (node.right w)) r ⌝ }
 {
     let kind = word::kind(w);
     match kind {
@@ -174,26 +117,4 @@ pub fn either(w: u32, always: usize) -> u64
     } else {
         slot::pack(kinds::OR, place(Rewriting::Opening, word::left(w)), always)
     }
-}
-
-// Writes the two slots of word j that ask whether it is chosen.
-pub fn choose_word(w: u32, j: usize, chosen: bool, draft: &mut [u64])
-    requires { ⌜ specs.Plain w × specs.Inside j (now draft) ⌝ }
-    ensures { λ r. ⌜ specs.WordChosen w j chosen (now (draft .entry)) (now (draft .exit)) ⌝ }
-{
-    let first = 5 * j;
-    draft[first] = steady(w, chosen);
-    draft[first + 1] = recurring(w, chosen);
-}
-
-// Writes the slots of word j, not chosen. Those of the G and the or mean nothing where the word is neither W nor R: nothing leads to them.
-pub fn fill_word(w: u32, j: usize, draft: &mut [u64])
-    requires { ⌜ specs.Plain w × specs.Inside j (now draft) ⌝ }
-    ensures { λ r. ⌜ specs.WordFilled w j (now (draft .entry)) (now (draft .exit)) ⌝ }
-{
-    choose_word(w, j, false, draft);
-    let first = 5 * j;
-    draft[first + 2] = always(w);
-    draft[first + 3] = either(w, first + 2);
-    draft[first + 4] = opening(w, first + 3);
 }

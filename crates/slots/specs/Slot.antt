@@ -1,6 +1,9 @@
 -- A slot of a draft: the kind in bits 32 to 35, the left field in the 16 bits below them, the right field in the low 16.
 -- An operand is the slot, counted from 0, of an earlier word of the draft; a letter stands in the right field.
 use Prim.Native.Nat.{ℕ, _+_, _*_, _/_, _%_, _^_}
+use mathlib.Core.Path.{_≡_}
+use mathlib.Core.List.{List}
+use lib.ListN.{set}
 
 unfoldable pub kind : ℕ → ℕ
 kind s = s / 2 ^ 32
@@ -13,3 +16,8 @@ right s = s % 2 ^ 16
 
 unfoldable pub pack : ℕ → ℕ → ℕ → ℕ
 pack k l r = k * 2 ^ 32 + l * 2 ^ 16 + r
+
+-- slot i of the draft d is set to s, and r answers the slot
+pub record Stored (d e : List ℕ) (i s r : ℕ) : Type 0 where
+  pub set : e ≡ set d i s
+  pub answer : r ≡ i

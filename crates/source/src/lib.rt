@@ -1,6 +1,8 @@
-// A word of a table, taken apart.
+// A word of a table, taken apart, and the kind of its denial.
 use table::word;
 ghost use Rattle.source.specs.Source.{Inside, WordAt};
+
+pub mod kinds;
 
 pub struct Word {
     pub kind: u32,

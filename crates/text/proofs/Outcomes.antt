@@ -24,7 +24,8 @@ use Rattle.table.proofs.Frame.{Early, refused-answer, refused-result, too-long-
 use Rattle.placing.specs.State as draft
 use Rattle.placing.proofs.Putting.{written-length, numbered-none, fits-true, fits-false}
 use Rattle.grammar.specs.Reader.{isNone, readingOf, departureOf}
-use Rattle.text.specs.Text.{tableBy, textTable, textStep, Fresh, Parsed}
+use Rattle.parsing.specs.Parsed.{Fresh, Parsed}
+use Rattle.text.specs.Text.{tableBy, textTable, textStep}
 
 -- no check before the last refuses for length
 pub text-early : (l : Limits) → Early (textStep l)

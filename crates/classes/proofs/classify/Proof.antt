@@ -22,7 +22,7 @@ returns c =
     let a = accepted (c .before .before .before .before .before) in
     let f = too-short (s .table .now) (s .bytes .now) a (c .before .before .before .before .if1 .taken) in (
       sym (too-long classStep (s .table .now) (s .bytes .now) a f),
-      c .before .before .clear .ensures ∙ sym (too-long-result classStep (s .table .now) (s .bytes .now) a f),
+      c .before .before .bytes .ensures ∙ sym (too-long-result classStep (s .table .now) (s .bytes .now) a f),
     )
 
 fill-requires : tie.Need-fill-requires

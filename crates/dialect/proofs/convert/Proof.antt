@@ -24,7 +24,7 @@ returns c =
     let wrote = c .before .before .before .before .before .before .before in
     let told = wrote .before .before in
     let r = too-long (now (start told .args .table)) (now (start told .args .result)) (accepted told) (wrote .write .ensures) (wrote .write .kept .1 .0) (c .before .before .before .before .if1 .taken) in
-    (r .reply, c .before .before .clear .ensures ∙ r .slice)
+    (r .reply, c .before .before .words .ensures ∙ r .slice)
 
 returns-2 : tie.Need-returns-2
 returns-2 c =

@@ -1,12 +1,13 @@
-use mathlib.Core.Path.{_≡_}
-use lib.ListN.{length}
+use Prim.Native.Nat.{_<_}
+use mathlib.Core.Bool.{true}
 use denote.Ref.{now}
+use borrow.Author.Needs.{needs}
 use Rattle.logic.specs.Dialect.{dialect}
-use Rattle.logic.specs.Formula.{Formula}
 use Rattle.table.specs.Steps.{dialectTable}
 use Rattle.table.specs.Table.{rule}
-use Rattle.placing.proofs.Written.{written-none, written-all}
-use borrow.Author.Needs.{needs}
+use Rattle.numbering.proofs.Accepted.{rule-small}
+use Rattle.placing.proofs.Written.{written-all}
+use Rattle.dialect_draft.proofs.Letters.{letters-dialect}
 use Rattle.dialect_rooms.proofs.Rooms.{root-drafted, numberable}
 use Rattle.dialect_rooms.proofs.write_in.Statement.{statement}
 use Rattle.dialect_rooms.proofs.write_in.Tie as tie
@@ -16,31 +17,19 @@ abbrev filled : tie.After-number-arg5 → tie.After-fill
 filled c = c .before .before .before .before .before .before .before
 
 abbrev start : tie.After-number-arg5 → tie.Start
-start c = c .before .before .before .before .before .before .before .before .before .before .before .before .before .before .before
+start c = filled c .before .before .before .before .before .before .before .before
 
 number-requires : tie.Need-number-requires
-number-requires c κs =
-    let pre = start c .pre in
-    numberable (pre .0) (filled c .fill .kept .1 .0) (filled c .fill .ensures) (pre .1)
+number-requires c κs = numberable (start c .pre .0) (filled c .fill .kept .1 .0) (filled c .fill .ensures) (start c .pre .1)
 
 returns : tie.Need-returns
 unfolding dialectTable
 returns c =
-    let at-number = c .before .before .before .before .before .before .before .before .before in
-    let at-call = at-number .before in
-    let pre = start at-call .pre in
-    let form = dialect (rule (now (start at-call .args .table))) in
-    written-none form (at-number .number .ensures .placed form (root-drafted _ _ (pre .0 .accepted) (filled at-call .fill .ensures))) (pre .1 .none) (c .if1 .taken)
-
-returns-2 : tie.Need-returns-2
-unfolding dialectTable
-returns-2 c =
-    let at-number = c .before .before .before .before .before .before .before .before .before .before .before in
-    let at-call = at-number .before in
-    let pre = start at-call .pre in
-    let form = dialect (rule (now (start at-call .args .table))) in
-    rw (c .count .ensures)
-    (written-all form (at-number .number .ensures .placed form (root-drafted _ _ (pre .0 .accepted) (filled at-call .fill .ensures))) (pre .1 .none) (c .before .before .if1 .left))
+    let at-number = c .before .before .before .before .before .before .before .before in
+    let pre = start (at-number .before) .pre in
+    let t = now (start (at-number .before) .args .table) in
+    written-all (dialect (rule t)) (letters-dialect (λ p. p < 16384) (rule t) (rule-small true 16383 t (pre .0 .accepted)))
+    (at-number .number .ensures .placed (dialect (rule t)) (root-drafted _ _ (pre .0 .accepted) (filled (at-number .before) .fill .ensures))) (pre .1 .none)
 
 pub write-in-spec : {M : Type 1} → statement M
 write-in-spec =
@@ -55,11 +44,4 @@ write-in-spec =
     (λ c. search needs)
     (λ c. search needs)
     (λ c. search needs)
-    returns
-    (λ c κs. search needs)
-    (λ c. search needs)
-    (λ c. search needs)
-    (λ c. search needs)
-    (λ c. search needs)
-    (λ c. search needs)
-    returns-2)
+    returns)

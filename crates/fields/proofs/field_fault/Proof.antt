@@ -4,8 +4,8 @@ use mathlib.Core.Bool.{Bool, true}
 use mathlib.Core.List.{List}
 use lib.ListN.{set}
 use borrow.Author.Needs.{needs}
-use Rattle.fields.specs.Layout.{blankChecks, letterChecks, operandChecks}
-use Rattle.fields.proofs.First.{checked-both, unmarked}
+use Rattle.field_checks.specs.Field.{blankChecks, letterChecks, operandChecks}
+use Rattle.field_checks.proofs.First.{checked-both, unmarked}
 use Rattle.fields.proofs.field_fault.Statement.{statement}
 use Rattle.fields.proofs.field_fault.Tie as tie
 

@@ -9,7 +9,8 @@ use lib.ListN.{length}
 use borrow.Author.Needs.{needs}
 use Rattle.table.proofs.Accepted.{accepted-well-formed}
 use Rattle.filling.specs.Filled.{Chosen}
-use Rattle.filling.proofs.WordByWord.{word-plain, chosen-none, chosen-other, chosen-more, kept-bit}
+use Rattle.conjuncts.proofs.Forms.{kept-bit}
+use Rattle.filling.proofs.WordByWord.{word-plain, chosen-none, chosen-other, chosen-more}
 use Rattle.fixpoints.proofs.Positions.{kept-small}
 use Rattle.filling.proofs.choose_words.Statement.{statement}
 use Rattle.filling.proofs.choose_words.Tie as tie

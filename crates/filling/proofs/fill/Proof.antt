@@ -1,6 +1,6 @@
 use native.Mathlib.Omega.{arith}
 use borrow.Author.Needs.{needs}
-use Rattle.filling.proofs.Conjoining.{joinable-least, joinable-greatest, part-drafted, still-laid}
+use Rattle.filling.proofs.Part.{joinable-least, joinable-greatest, part-drafted, still-laid}
 use Rattle.filling.proofs.fill.Statement.{statement}
 use Rattle.filling.proofs.fill.Tie as tie
 

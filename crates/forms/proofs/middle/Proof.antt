@@ -1,7 +1,7 @@
 use native.Mathlib.Omega.{arith}
 use borrow.Author.Needs.{needs}
 use Rattle.forms.specs.Forms.{mostSlots}
-use Rattle.forms.proofs.Tiers.{formable, formed-none, formed-some}
+use Rattle.forms.proofs.Tiers.{formable, formed}
 use Rattle.forms.proofs.middle.Statement.{statement}
 use Rattle.forms.proofs.middle.Tie as tie
 
@@ -9,23 +9,7 @@ form-requires : tie.Need-form-requires
 form-requires c κs = formable mostSlots 8194 4096 (c .before .before .before .before .before .before .before .before .pre) (omega arith) (omega arith) (omega arith)
 
 returns : tie.Need-returns
-returns c = formed-none _ 8194 (c .before .before .before .before .before .before .before .form .ensures) (c .if1 .taken)
-
-returns-2 : tie.Need-returns-2
-returns-2 c = formed-some _ 8194 (c .before .before .before .before .before .before .before .before .before .form .ensures) (c .before .before .if1 .left) (c .count .ensures)
+returns c = formed (c .before .before .before .before .before .before .before .before .before .before .before .before .before .before .before .pre .0 .table) 8194 (c .before .before .before .before .before .before .form .ensures)
 
 pub middle-spec : {M : Type 1} → statement M
-middle-spec =
-    tie.close
-    (tie.spec
-    (λ c. search needs)
-    (λ c. search needs)
-    (λ c. search needs)
-    (λ c. search needs)
-    form-requires
-    (λ c. search needs)
-    returns
-    (λ c. search needs)
-    (λ c κs. search needs)
-    (λ c. search needs)
-    returns-2)
+middle-spec = tie.close (tie.spec (λ c. search needs) (λ c. search needs) (λ c. search needs) (λ c. search needs) form-requires (λ c. search needs) returns)

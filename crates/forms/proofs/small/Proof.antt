@@ -1,7 +1,7 @@
 use native.Mathlib.Omega.{arith}
 use borrow.Author.Needs.{needs}
 use Rattle.forms.specs.Forms.{shortSlots}
-use Rattle.forms.proofs.Tiers.{formable, formed-none, formed-some}
+use Rattle.forms.proofs.Tiers.{formable, formed}
 use Rattle.forms.proofs.small.Statement.{statement}
 use Rattle.forms.proofs.small.Tie as tie
 
@@ -9,23 +9,7 @@ form-requires : tie.Need-form-requires
 form-requires c κs = formable shortSlots 2048 1023 (c .before .before .before .before .before .before .before .before .pre) (omega arith) (omega arith) (omega arith)
 
 returns : tie.Need-returns
-returns c = formed-none _ 2048 (c .before .before .before .before .before .before .before .form .ensures) (c .if1 .taken)
-
-returns-2 : tie.Need-returns-2
-returns-2 c = formed-some _ 2048 (c .before .before .before .before .before .before .before .before .before .form .ensures) (c .before .before .if1 .left) (c .count .ensures)
+returns c = formed (c .before .before .before .before .before .before .before .before .before .before .before .before .before .before .before .pre .0 .table) 2048 (c .before .before .before .before .before .before .form .ensures)
 
 pub small-spec : {M : Type 1} → statement M
-small-spec =
-    tie.close
-    (tie.spec
-    (λ c. search needs)
-    (λ c. search needs)
-    (λ c. search needs)
-    (λ c. search needs)
-    form-requires
-    (λ c. search needs)
-    returns
-    (λ c. search needs)
-    (λ c κs. search needs)
-    (λ c. search needs)
-    returns-2)
+small-spec = tie.close (tie.spec (λ c. search needs) (λ c. search needs) (λ c. search needs) (λ c. search needs) form-requires (λ c. search needs) returns)

@@ -33,7 +33,7 @@ returns c =
     let start = c .before .before .before .before .before .before .before .before .before .before .before .before .before .before .before .before in
     let wrote = c .before .before .before .before .before .before .before in
     let r = too-long (start .args .limits) (now (start .args .table)) (now (start .args .result)) (accepted (wrote .before .before .before .before)) (wrote .before .before .lesser .ensures) (wrote .write .ensures) (wrote .write .kept .1 .0) (c .before .before .before .before .if1 .taken) in
-    (r .reply, c .before .before .clear .ensures ∙ r .slice)
+    (r .reply, c .before .before .words .ensures ∙ r .slice)
 
 returns-2 : tie.Need-returns-2
 returns-2 c =

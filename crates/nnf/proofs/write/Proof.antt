@@ -1,11 +1,14 @@
 use mathlib.Core.Path.{refl}
-use mathlib.Core.Bool.{true}
+use mathlib.Core.Bool.{true, false}
+use Prim.Native.Nat.{_<_}
 use denote.Ref.{now}
 use borrow.Author.Needs.{needs}
 use Rattle.logic.specs.NegationNormalForm.{plain}
+use Rattle.logic.proofs.Letters.{letters-plain}
 use Rattle.table.specs.Steps.{plainTable}
 use Rattle.table.specs.Table.{rule}
-use Rattle.placing.proofs.Written.{written-none, written-all}
+use Rattle.numbering.proofs.Accepted.{rule-small}
+use Rattle.placing.proofs.Written.{written-all}
 use Rattle.nnf.proofs.Step.{nothing-drafted, nothing-numbered, numberable}
 use Rattle.nnf.proofs.write.Statement.{statement}
 use Rattle.nnf.proofs.write.Tie as tie
@@ -19,18 +22,12 @@ number-requires c κs =
 returns : tie.Need-returns
 unfolding plainTable
 returns c =
-    let numbered = c .before .before .before .before .before .before in
+    let numbered = c .before .before .before .before .before in
     let drafted = numbered .before .before .before .before .before .before .before in
-    let form = plain true (rule (now (drafted .before .before .before .before .args .table))) in
-    written-none form (numbered .number .ensures .placed form (drafted .draft-rule .ensures)) refl (c .if1 .taken)
-
-returns-2 : tie.Need-returns-2
-unfolding plainTable
-returns-2 c =
-    let numbered = c .before .before .before .before .before .before .before .before in
-    let drafted = numbered .before .before .before .before .before .before .before in
-    let form = plain true (rule (now (drafted .before .before .before .before .args .table))) in
-    rw (c .count .ensures) (written-all form (numbered .number .ensures .placed form (drafted .draft-rule .ensures)) refl (c .before .before .if1 .left))
+    let start = drafted .before .before .before .before in
+    let t = now (start .args .table) in
+    written-all (plain true (rule t)) (letters-plain (λ p. p < 16384) true (rule t) (rule-small false (start .pre .limit) t (start .pre .accepted)))
+    (numbered .number .ensures .placed (plain true (rule t)) (drafted .draft-rule .ensures)) refl
 
 pub write-spec : {M : Type 1} → statement M
 write-spec =
@@ -44,8 +41,4 @@ write-spec =
     (λ c. search needs)
     number-requires
     (λ c. search needs)
-    returns
-    (λ c. search needs)
-    (λ c κs. search needs)
-    (λ c. search needs)
-    returns-2)
+    returns)

@@ -22,7 +22,7 @@ form-requires c κs = all-passed desk (c .before .before .before .before .before
 returns-2 : tie.Need-returns-2
 returns-2 c =
     let q = too-long desk (c .before .before .before .before .before .before .before .before .before .before .before .before .before .before .before .before .before .before .args .table .now) (c .before .before .before .before .before .before .before .before .before .before .before .before .before .before .before .before .before .before .args .result .now) (table-at-desk _ (c .before .before .before .before .before .before .before .before .before .before .before .before .before .before .before .desk .ensures) (c .before .before .before .before .before .before .before .before .before .before .before .before .before .check .ensures) (c .before .before .before .before .before .before .before .before .before .before .before .enum-told .given .1)) (past-at-desk (c .before .before .before .before .before .before .before .before .before .before .before .before .before .before .before .desk .ensures) (c .before .before .before .before .before .before .before .before .before .before .past .ensures)) (c .before .before .before .before .before .before .before .before .before .if1 .left) (c .before .before .before .before .before .before .before .form .ensures) (c .before .before .before .before .if2 .taken) (c .before .before .before .before .before .before .before .form .kept .1 .0) in
-    (q .reply, c .before .before .clear .ensures ∙ q .slice)
+    (q .reply, c .before .before .words .ensures ∙ q .slice)
 
 returns-3 : tie.Need-returns-3
 returns-3 c =

@@ -12,7 +12,7 @@ number-requires c κs =
     let start = c .before .before .before .before .before .before .before .before .before .before .before .before .before .before .before .before .before .before .before .before in
     let filled = c .before .before .before .before .before .before .before .before .before .before .before .fill in
     let φ = part (fixpoints (start .args .table .now)) (rule (start .args .table .now)) (start .args .choice) in
-    (start .pre .numbered, numberable (start .pre) (filled .kept .1 .1 .1 .0) (c .before .before .before .before .before .before .before .forget .ensures) refl φ (filled .ensures .0))
+    (start .pre .numbered, numberable (start .pre) (filled .kept .1 .1 .1 .0) (c .before .before .before .before .before .before .before .numbers .ensures) refl φ (filled .ensures .0))
 
 returns : tie.Need-returns
 returns c =

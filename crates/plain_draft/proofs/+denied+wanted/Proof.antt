@@ -8,7 +8,7 @@ use mathlib.Core.Logic.{⊎-elim}
 use mathlib.Core.Bool.{true, false}
 use Rattle.plain_draft.proofs.Filling.{asked-after, known-formed, earlier-falls, asked-earlier}
 use Rattle.plain_draft.proofs.Forming.{right-unary, left-binary, right-binary, left-operator, right-operator, leaf-formed, not-formed, next-formed, finally-formed, globally-formed, implies-formed, operator-formed}
-use Rattle.plain_draft.proofs.Shapes.{wanted-kind, IsOperator}
+use Rattle.plain_draft.proofs.Shapes.{wanted-kind, IsOperator, last-arm}
 use borrow.Fn.Kinds.{In}
 use borrow.Fn.PlainCycle.{Measures, is, falls, and}
 use Rattle.plain_draft.proofs.denied.Reads as denied
@@ -17,8 +17,8 @@ use Rattle.plain_draft.proofs.+denied+wanted.Lts-denied as denied-lts
 use Rattle.plain_draft.proofs.wanted.Reads as wanted
 use Rattle.plain_draft.proofs.wanted.Kinds as wanted-kinds
 use Rattle.plain_draft.proofs.+denied+wanted.Lts-wanted as wanted-lts
-use Rattle.plain_draft.proofs.fill.Reads as fill-reads
-use Rattle.plain_draft.proofs.kinds.dual.Reads as dual-reads
+use Rattle.slots.proofs.slot.store.Reads as store-reads
+use Rattle.source.proofs.kinds.dual.Reads as dual-reads
 use Rattle.source.proofs.read.Reads as read-reads
 use Rattle.plain_draft.proofs.+denied+wanted.{statement}
 use Rattle.plain_draft.proofs.+denied+wanted.Tie.{close}
@@ -42,37 +42,17 @@ abbrev wanted-below : ℕ → In 2 wanted-kinds.ps
 wanted-below t = and 2 wanted-kinds.ps (falls 2 wanted-kinds.ps _<_ μ-wanted t) wanted.Pre
 
 abbrev denied-callees : ℕ → denied-lts.Claims
-denied-callees t = (read-reads.Asked, read-reads.Learnt, denied-below t, denied.Post, fill-reads.Asked, fill-reads.Learnt, wanted-below t, wanted.Post, dual-reads.Asked, dual-reads.Learnt)
+denied-callees t = (read-reads.Asked, read-reads.Learnt, denied-below t, denied.Post, store-reads.Asked, store-reads.Learnt, wanted-below t, wanted.Post, dual-reads.Asked, dual-reads.Learnt)
 
 abbrev wanted-callees : ℕ → wanted-lts.Claims
-wanted-callees t = (read-reads.Asked, read-reads.Learnt, wanted-below t, wanted.Post, fill-reads.Asked, fill-reads.Learnt, denied-below t, denied.Post)
+wanted-callees t = (read-reads.Asked, read-reads.Learnt, wanted-below t, wanted.Post, store-reads.Asked, store-reads.Learnt, denied-below t, denied.Post)
 
 -- the last arm is that of the operators
 denied-operator : (t : ℕ) (c : denied-lts.Joined2 (denied-callees t) (denied-at t) denied.Post) → IsOperator (c .before .before .read .result .kind)
-denied-operator t c =
-    let word = c .before .before .read .ensures in
-    let rest = c .before .match .rest in
-    record {
-      above = ⊎-elim (λ w. omega (arith, word .positive)) (λ w. w .1 .left) (c .if2 .came);
-      no-next = rest .0 .0 .0 .0 .1;
-      no-not = rest .0 .0 .0 .1;
-      no-finally = rest .0 .0 .1;
-      no-globally = rest .0 .1;
-      no-implies = rest .1;
-    }
+denied-operator t c = last-arm (⊎-elim (λ w. omega (arith, c .before .before .read .ensures .positive)) (λ w. w .1 .left) (c .if2 .came)) (c .before .match .rest)
 
 wanted-operator : (t : ℕ) (c : wanted-lts.Joined2 (wanted-callees t) (wanted-at t) wanted.Post) → IsOperator (c .before .before .read .result .kind)
-wanted-operator t c =
-    let word = c .before .before .read .ensures in
-    let rest = c .before .match .rest in
-    record {
-      above = ⊎-elim (λ w. omega (arith, word .positive)) (λ w. w .1 .left) (c .if2 .came);
-      no-next = rest .0 .0 .0 .0 .1;
-      no-not = rest .0 .0 .0 .1;
-      no-finally = rest .0 .0 .1;
-      no-globally = rest .0 .1;
-      no-implies = rest .1;
-    }
+wanted-operator t c = last-arm (⊎-elim (λ w. omega (arith, c .before .before .read .ensures .positive)) (λ w. w .1 .left) (c .if2 .came)) (c .before .match .rest)
 
 pub +denied+wanted-spec : {M : Type 1} → statement M
 +denied+wanted-spec = close μ-denied μ-wanted (λ t. denied-lts.spec (denied-callees t)

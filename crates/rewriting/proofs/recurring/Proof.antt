@@ -5,7 +5,7 @@ use borrow.Author.Needs.{needs}
 use mathlib.Core.Path.{refl, ap, _∙_}
 use mathlib.Core.Logic.{inl, inr, ⊎-elim}
 use Rattle.slots.specs.Slot.{pack}
-use Rattle.rewriting.specs.declared.Rewriting.the-variants.{Recurring}
+use Rattle.form_places.specs.declared.Rewriting.the-variants.{Recurring}
 use Rattle.rewriting.proofs.Rewritten.{of-constant, of-letter, of-next, of-binary, of-recurring-kept, others, no-other}
 use Rattle.rewriting.proofs.recurring.Statement.{statement}
 use Rattle.rewriting.proofs.recurring.Tie as tie

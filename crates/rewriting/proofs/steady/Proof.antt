@@ -4,7 +4,7 @@ use native.Mathlib.Omega.{arith}
 use borrow.Author.Needs.{needs}
 use mathlib.Core.Path.{refl, ap, _∙_}
 use Rattle.slots.specs.Slot.{pack}
-use Rattle.rewriting.specs.declared.Rewriting.the-variants.{Steady}
+use Rattle.form_places.specs.declared.Rewriting.the-variants.{Steady}
 use Rattle.rewriting.proofs.Rewritten.{of-constant, of-letter, of-next, of-binary, of-steady-kept}
 use Rattle.rewriting.proofs.steady.Statement.{statement}
 use Rattle.rewriting.proofs.steady.Tie as tie

@@ -40,19 +40,19 @@ returns-3 c =
     let n = counted p z _ (at-count .count .ensures) in
     outcome-many _ _ (short at-count) (p .reads z .0) (p .reads z .1) (omega (arith, n, c .if3 .taken))
 
-clear-requires : tie.Need-clear-requires
-clear-requires c κs = search needs
+words-requires : tie.Need-words-requires
+words-requires c κs = search needs
 
 returns-4 : tie.Need-returns-4
 returns-4 c =
-    let at-clear = c .before .before in
-    let at-then = at-clear .before .before in
+    let at-words = c .before .before in
+    let at-then = at-words .before .before in
     let at-rule = at-then .before .before in
     let at-count = at-rule .before in
     let p = parsed at-count .parse .ensures in
     let z = at-rule .if2 .left in
     let n = counted p z _ (at-count .count .ensures) in
-    rw (at-clear .clear .ensures)
+    rw (at-words .words .ensures)
     (outcome-short _ _ (short at-count) (p .reads z .0) (p .reads z .1) (omega (arith, n, at-then .before .if3 .left)) (omega (arith, n, at-then .if4 .taken)))
 
 copy-requires : tie.Need-copy-requires
@@ -86,7 +86,7 @@ read-spec =
     count-requires
     returns-2
     returns-3
-    clear-requires
+    words-requires
     (search needs)
     returns-4
     (search needs)

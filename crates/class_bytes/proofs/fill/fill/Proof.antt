@@ -8,7 +8,8 @@ use borrow.Author.Needs.{needs}
 use lib.ListN.{length, take, drop, set, length-set}
 use lib.Seq.{take-at, take-all, length-take-le}
 use Rattle.table.specs.Steps.{classBytes}
-use Rattle.class_bytes.proofs.Words.{length-classBytes, fill-more}
+use Rattle.clearing.proofs.Copying.{copy-more}
+use Rattle.class_bytes.proofs.Words.{length-classBytes}
 use Rattle.class_bytes.proofs.fill.fill.Statement.{statement}
 use Rattle.class_bytes.proofs.fill.fill.Tie as tie
 
@@ -45,7 +46,7 @@ loop-again c =
       length-set (c .before .before .before .loop .bytes) i (c .byte-at .result) ∙ inv .1,
       rw (add-one i)
           (ap₂ (λ (l : List ℕ) (v : ℕ). set l i v) (inv .2) (c .byte-at .ensures)
-          ∙ fill-more (classBytes t) d i (omega (arith, length-classBytes t)) (omega (arith, s .pre .1))),
+          ∙ copy-more (classBytes t) d i (omega (arith, length-classBytes t)) (omega (arith, s .pre .1))),
     )
 
 returns : tie.Need-returns Inv-loop μ-loop

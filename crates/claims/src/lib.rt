@@ -1,0 +1,1 @@
+// The claim of demand 3 and its laws; no code.

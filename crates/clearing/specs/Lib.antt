@@ -1,0 +1,1 @@
+-- The promise cites only lists.

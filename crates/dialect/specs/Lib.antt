@@ -1,2 +1,0 @@
--- What the dialect's step promises.
-pub mod Converted

@@ -1,0 +1,2 @@
+-- What a conversion keeps.
+pub mod Converted

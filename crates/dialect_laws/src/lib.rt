@@ -1,0 +1,1 @@
+// What a conversion keeps, and its laws; no code.

@@ -1,0 +1,2 @@
+-- The laws of checks in a row.
+pub mod First

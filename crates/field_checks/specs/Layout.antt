@@ -1,0 +1,11 @@
+-- The four layouts of a word's fields.
+use Rattle.table.specs.Node.{Shape, none, constant, letter, unary, binary}
+use Rattle.field_checks.specs.declared.layout.Layout.{Layout}
+use Rattle.field_checks.specs.declared.layout.Layout.the-variants.{Constant, Letter, Unary, Binary}
+
+abbrev pub layoutOf : Shape → Layout
+layoutOf none = Constant
+layoutOf (constant b) = Constant
+layoutOf (letter b) = Letter
+layoutOf (unary o) = Unary
+layoutOf (binary o) = Binary

@@ -1,0 +1,3 @@
+-- What the fields of a word are for, and the checks of one.
+pub mod Layout
+pub mod Field

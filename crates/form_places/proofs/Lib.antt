@@ -1,0 +1,2 @@
+-- The slots of words in their order.
+pub mod Places

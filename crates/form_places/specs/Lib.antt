@@ -1,0 +1,2 @@
+-- Where the slots of a word stand.
+pub mod Places

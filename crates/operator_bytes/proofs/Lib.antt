@@ -1,0 +1,3 @@
+-- The laws of plain kinds, and of masked bytes.
+pub mod PlainKind
+pub mod Shifts

@@ -1,0 +1,2 @@
+-- What a plain kind stands for.
+pub mod PlainKind

@@ -1,0 +1,3 @@
+// The class byte of an operator from the bytes of its operands.
+pub mod byte;
+pub mod kind;

@@ -1,0 +1,2 @@
+-- A text that was read.
+pub mod Parsed

@@ -1,0 +1,2 @@
+-- Slots written one after the other.
+pub mod Stores

@@ -1,0 +1,2 @@
+-- The slots of a word.
+pub mod WordSlots
