@@ -1,7 +1,7 @@
 // Replies and slices of the library compared with those of the programs written for clarity, before anything is timed: on the rules of
 // source 000, and on tables that are damaged in one place or two, with slices that are too short among the rest.
 use crate::hashmap::Refused;
-use crate::rules::{word, Rule};
+use crate::rules::{headed, word, Rule};
 use crate::shapes::{mixed, recording, Numbers, FREE, PLAIN, WRITTEN};
 use crate::{hashmap, library, moments, typed};
 use std::collections::BTreeMap;
@@ -15,8 +15,24 @@ fn same<T: PartialEq + Debug>(seen: &mut Seen, ours: Result<T, Refused>, theirs:
     *seen.entry(ours.err().map_or(0, |refused| refused.0)).or_default() += 1;
 }
 
-// A table with some words changed, repeated or left out.
-fn damaged(numbers: &mut Numbers, mut table: Vec<u32>) -> Vec<u32> {
+// A table with some words changed, repeated or left out, under a header that counts them, mostly that of the words; at times the header
+// is changed, or words are left out under it.
+fn damaged(numbers: &mut Numbers, table: Vec<u32>) -> Vec<u32> {
+    let words = damaged_words(numbers, table[1..].to_vec());
+    let count = (words.len() as u32).min(16383);
+    let passes = !words.is_empty() && words.len() <= 16383 && hashmap::check_words(&words, false).is_ok();
+    let mut table = if passes { headed(words) } else { [vec![count], words].concat() };
+    match numbers.next(30) {
+        0 => table[0] ^= 1 << numbers.next(32),
+        1 => table[0] = numbers.next(1 << 30) as u32,
+        2 => table[0] = table[0] & !0x3FFF | numbers.next(140) as u32,
+        3 => table.truncate(numbers.next(table.len() + 1)),
+        _ => {}
+    }
+    table
+}
+
+fn damaged_words(numbers: &mut Numbers, mut table: Vec<u32>) -> Vec<u32> {
     for _ in 0..numbers.next(3) {
         let i = numbers.next(table.len());
         let (left, right) = (numbers.next(i + 3), numbers.next(i + 3));
@@ -40,9 +56,9 @@ fn checks(seen: &mut Seen, numbers: &mut Numbers, most: usize) {
         let n = 1 + numbers.next(most);
         let table = damaged(numbers, mixed(n, kinds));
         for (plain, limit) in [(true, 130), (true, 16383), (false, 64), (false, 16383)] {
-            same(seen, library::check(&table, plain, limit), hashmap::check(&table, plain, limit));
+            same(seen, library::check(&table, plain, limit), hashmap::check(&table, plain, limit).map(|_| ()));
         }
-        let room = (table.len() + numbers.next(3)).saturating_sub(1);
+        let room = (table.len() + numbers.next(3)).saturating_sub(2);
         slices(seen, room, |s| library::classify(&table, s), |s| hashmap::classify(&table, s));
     }
 }
@@ -57,15 +73,15 @@ fn slices<W: From<u8> + Copy + PartialEq, T: PartialEq + Debug>(
 }
 
 fn forms(seen: &mut Seen, numbers: &mut Numbers, written: &[u32], plain: &[u32]) {
-    for room in [0, 1 + numbers.next(40), 130] {
+    for room in [0, 1 + numbers.next(40), 131] {
         slices(seen, room, |s| library::plain_form(written, s), |s| hashmap::plain_form(written, s));
     }
     if !library::FORMS {
         return;
     }
-    for room in [0, 1 + numbers.next(900), 16383, 20000] {
+    for room in [0, 1 + numbers.next(900), 16384, 20000] {
         slices(seen, room, |s| library::normal_form(plain, s), |s| hashmap::normal_form(plain, s));
-        let short = [0, 12, 130][numbers.next(3)];
+        let short = [0, 12, 131][numbers.next(3)];
         let (mut one, mut other) = (vec![7; short], vec![7; short]);
         let (mut form, mut form2) = (vec![7; room], vec![7; room]);
         same(seen, library::rule_form(written, &mut one, &mut form), hashmap::rule_form(written, &mut other, &mut form2));
@@ -80,7 +96,7 @@ fn dialects(seen: &mut Seen, numbers: &mut Numbers, most: usize) {
     for kinds in [&PLAIN[..], &FREE[..], &WRITTEN[..]] {
         let n = 1 + numbers.next(most);
         let table = damaged(numbers, mixed(n, kinds));
-        for room in [0, 1 + numbers.next(2 * n), 2 * n + 2, 16383, 20000] {
+        for room in [0, 1 + numbers.next(2 * n), 2 * n + 3, 16383, 16384, 20000] {
             slices(seen, room, |s| library::dialect(&table, s), |s| hashmap::dialect(&table, s));
         }
     }
@@ -92,7 +108,7 @@ fn judges(seen: &mut Seen, numbers: &mut Numbers) {
     let count = [0, 1, 63, 64, 65, 300, 4096, 4097][numbers.next(8)];
     let samples: Vec<u32> = recording(count).into_iter().map(|sample| sample ^ numbers.next(4) as u32).collect();
     let start = numbers.next(count + 1);
-    let room = table.len() * ((count + 63) / 64);
+    let room = table.len().saturating_sub(1) * ((count + 63) / 64);
     let driven = [0, 1, 2, 3, 31, 32, 32, 32, 33][numbers.next(9)];
     let recording = library::Recording { samples: &samples, start, driven };
     for room in [room / 2, room, room + 3] {
@@ -106,7 +122,7 @@ fn judges(seen: &mut Seen, numbers: &mut Numbers) {
 fn texts(seen: &mut Seen, numbers: &mut Numbers) {
     if library::TEXTS {
         let text = typed::damaged(numbers);
-        let room = [0, 1 + numbers.next(20), 64, 70][numbers.next(4)];
+        let room = [0, 1 + numbers.next(20), 64, 65, 70][numbers.next(5)];
         slices(seen, room, |s| library::text(&text, s), |s| typed::read(&text, s));
     }
 }
@@ -114,7 +130,7 @@ fn texts(seen: &mut Seen, numbers: &mut Numbers) {
 pub fn all(rules: &[Rule]) -> Seen {
     let (mut seen, mut numbers) = (Seen::new(), Numbers(3));
     for rule in rules {
-        let mut plain = vec![0; 130];
+        let mut plain = vec![0; 131];
         let n = hashmap::plain_form(&rule.table, &mut plain).expect("a plain form");
         forms(&mut seen, &mut numbers, &rule.table, &plain[..n]);
     }

@@ -1,6 +1,7 @@
 // The normal forms of rules with eight until-like words, by two builds of the library in turn, the one before under names of its own. Each
 // time is the least of 400 rounds after a warm-up; the ratio is the median over the rounds of the one after over the one before.
 #![allow(dead_code)]
+mod hashmap;
 mod rules;
 mod shapes;
 mod timing;
@@ -23,7 +24,7 @@ fn normal_form(step: Step, table: &[u32], result: &mut [u32]) -> (u32, usize, us
 
 fn main() {
     for (name, table) in shapes::eight_until_like() {
-        let (mut result, mut result2) = (vec![0; 4096], vec![0; 4096]);
+        let (mut result, mut result2) = (vec![0; 4097], vec![0; 4097]);
         let reply = normal_form(showrule_normal, &table, &mut result);
         assert_eq!(reply, normal_form(before_showrule_normal, &table, &mut result2));
         assert!(result == result2, "the slices are the same");
@@ -37,7 +38,7 @@ fn main() {
         );
         println!(
             "normal form, 8 until-like words, {name}, {} words to {}: before {:.1} us, after {:.1} us, ratio {:.3}",
-            table.len(), reply.2, timing::least_ms(&rounds, 1) * 1e3, timing::least_ms(&rounds, 0) * 1e3, timing::ratio(&rounds, 1)
+            table.len() - 1, reply.2.saturating_sub(1), timing::least_ms(&rounds, 1) * 1e3, timing::least_ms(&rounds, 0) * 1e3, timing::ratio(&rounds, 1)
         );
     }
 }

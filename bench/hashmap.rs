@@ -31,17 +31,34 @@ fn right(w: u32) -> usize {
     (w & 0x3FFF) as usize
 }
 
-// Checks 1 to 10.
-pub fn check(table: &[u32], plain: bool, limit: usize) -> Result<(), Refused> {
-    if table.is_empty() {
-        return Err((1, 0));
+// Checks 1, 2 and 23, 3 to 10, and 24: the words of a table, without its header.
+pub fn check(table: &[u32], plain: bool, limit: usize) -> Result<&[u32], Refused> {
+    let (&header, words) = table.split_first().ok_or((1, 0))?;
+    match right(header) {
+        0 => return Err((1, 0)),
+        count if limit < count => return Err((2, 0)),
+        count if count != words.len() => return Err((23, 0)),
+        _ => {}
     }
-    if limit < table.len() {
-        return Err((2, 0));
+    check_words(words, plain)?;
+    if header != header_of(words) {
+        return Err((24, 0));
     }
+    Ok(words)
+}
+
+// The header of words that pass the checks: the class of the last one, or 0 where a written kind occurs, and their number.
+pub fn header_of(words: &[u32]) -> u32 {
+    let written = words.iter().any(|&w| NOT <= kind(w));
+    let class = if written { 0 } else { class_bytes(words)[words.len() - 1] };
+    (class as u32) << 14 | words.len() as u32
+}
+
+// Checks 3 to 10.
+pub fn check_words(words: &[u32], plain: bool) -> Result<(), Refused> {
     let mut numbers = HashMap::new();
-    let mut used = vec![false; table.len() + 1];
-    for (n, &w) in (1..).zip(table) {
+    let mut used = vec![false; words.len() + 1];
+    for (n, &w) in (1..).zip(words) {
         check_word(w, n, plain)?;
         if numbers.insert(w, n).is_some() {
             return Err((9, n));
@@ -55,7 +72,7 @@ pub fn check(table: &[u32], plain: bool, limit: usize) -> Result<(), Refused> {
             }
         }
     }
-    match (1..table.len()).find(|&n| !used[n]) {
+    match (1..words.len()).find(|&n| !used[n]) {
         Some(n) => Err((10, n)),
         None => Ok(()),
     }
@@ -91,12 +108,18 @@ const CLASSES: [(&[usize], &[u32]); 7] = [
 ];
 
 pub fn classify(table: &[u32], bytes: &mut [u8]) -> Result<(), Refused> {
-    check(table, true, 16383)?;
-    if bytes.len() < table.len() {
+    let words = check(table, true, 16383)?;
+    if bytes.len() < words.len() {
         bytes.fill(0);
         return Err((12, 0));
     }
-    for (i, &w) in table.iter().enumerate() {
+    bytes[..words.len()].copy_from_slice(&class_bytes(words));
+    Ok(())
+}
+
+fn class_bytes(words: &[u32]) -> Vec<u8> {
+    let mut bytes: Vec<u8> = Vec::with_capacity(words.len());
+    for &w in words {
         let operands = match kind(w) {
             1..=4 => 0,
             X => bytes[right(w) - 1],
@@ -109,12 +132,12 @@ pub fn classify(table: &[u32], bytes: &mut [u8]) -> Result<(), Refused> {
                 byte |= 1 << bit;
             }
         }
-        bytes[i] = byte;
+        bytes.push(byte);
     }
-    Ok(())
+    bytes
 }
 
-// Words listed as first needed, an identical word used again, in so much room.
+// Words listed as first needed, an identical word used again, in so much room, the header's included.
 pub struct Numbering {
     pub words: Vec<u32>,
     numbers: HashMap<u32, u32>,
@@ -123,7 +146,7 @@ pub struct Numbering {
 
 impl Numbering {
     pub fn new(room: usize) -> Numbering {
-        Numbering { words: Vec::new(), numbers: HashMap::new(), room: room.min(16383) }
+        Numbering { words: Vec::new(), numbers: HashMap::new(), room: room.min(16384).saturating_sub(1) }
     }
 
     pub fn put(&mut self, kind: u32, left: u32, right: u32) -> Result<u32, Refused> {
@@ -141,12 +164,13 @@ impl Numbering {
     }
 }
 
-// The form's words at the front of the result, or a result of zeros where they don't fit.
+// The form's header and words at the front of the result, or a result of zeros where they don't fit.
 pub fn hand_over(form: Result<Vec<u32>, Refused>, result: &mut [u32]) -> Result<usize, Refused> {
     match form {
         Ok(words) => {
-            result[..words.len()].copy_from_slice(&words);
-            Ok(words.len())
+            result[0] = header_of(&words);
+            result[1..=words.len()].copy_from_slice(&words);
+            Ok(1 + words.len())
         }
         Err(refused) => {
             result.fill(0);
@@ -156,14 +180,14 @@ pub fn hand_over(form: Result<Vec<u32>, Refused>, result: &mut [u32]) -> Result<
 }
 
 pub fn plain_form(table: &[u32], result: &mut [u32]) -> Result<usize, Refused> {
-    check(table, false, 64)?;
-    let mut plain = PlainForm { table, out: Numbering::new(result.len()), memo: vec![[0; 2]; table.len() + 1] };
-    let form = plain.form(table.len(), false);
+    let words = check(table, false, 64)?;
+    let mut plain = PlainForm { words, out: Numbering::new(result.len()), memo: vec![[0; 2]; words.len() + 1] };
+    let form = plain.form(words.len(), false);
     hand_over(form.map(|_| plain.out.words), result)
 }
 
 struct PlainForm<'a> {
-    table: &'a [u32],
+    words: &'a [u32],
     out: Numbering,
     memo: Vec<[u32; 2]>,
 }
@@ -175,7 +199,7 @@ impl PlainForm<'_> {
         if known != 0 {
             return Ok(known);
         }
-        let w = self.table[j - 1];
+        let w = self.words[j - 1];
         let becomes = |kind| if denied { dual(kind) } else { kind };
         let n = match kind(w) {
             k @ 1..=4 => self.out.put(becomes(k), 0, right(w) as u32)?,
@@ -222,34 +246,34 @@ fn dual(kind: u32) -> u32 {
 }
 
 pub fn normal_form(table: &[u32], result: &mut [u32]) -> Result<usize, Refused> {
-    check(table, true, 130)?;
-    let until_like: Vec<usize> = (1..=table.len()).filter(|j| (U..=M).contains(&kind(table[j - 1]))).collect();
+    let words = check(table, true, 130)?;
+    let until_like: Vec<usize> = (1..=words.len()).filter(|j| (U..=M).contains(&kind(words[j - 1]))).collect();
     if let Some(&ninth) = until_like.get(8) {
         return Err((11, ninth));
     }
-    let mut weight = vec![0; table.len() + 1];
+    let mut weight = vec![0; words.len() + 1];
     for (bit, &j) in until_like.iter().enumerate() {
         weight[j] = 1 << bit;
     }
-    let mut normal = NormalForm { table, until_like, weight, out: Numbering::new(result.len()), choice: 0, memo: Vec::new() };
+    let mut normal = NormalForm { words, until_like, weight, out: Numbering::new(result.len()), choice: 0, memo: Vec::new() };
     let form = normal.parts();
     hand_over(form.map(|_| normal.out.words), result)
 }
 
 // The dialect without W and M: a W b is b R (a or b), and a M b is b U (a and b).
 pub fn dialect(table: &[u32], result: &mut [u32]) -> Result<usize, Refused> {
-    check(table, true, 16383)?;
+    let words = check(table, true, 16383)?;
     let mut out = Numbering::new(result.len());
-    let form = convert(table, &mut out);
+    let form = convert(words, &mut out);
     hand_over(form.map(|_| out.words), result)
 }
 
 // Words that wait for their operands' numbers stand on a stack of their own: a table can be 16,383 words deep.
-fn convert(table: &[u32], out: &mut Numbering) -> Result<(), Refused> {
-    let mut memo = vec![0; table.len() + 1];
-    let mut waiting = vec![table.len()];
+fn convert(words: &[u32], out: &mut Numbering) -> Result<(), Refused> {
+    let mut memo = vec![0; words.len() + 1];
+    let mut waiting = vec![words.len()];
     while let Some(&j) = waiting.last() {
-        let w = table[j - 1];
+        let w = words[j - 1];
         let (a, b) = (left(w), right(w));
         let operands = match kind(w) {
             1..=4 => vec![],
@@ -294,7 +318,7 @@ enum Rewriting {
 use Rewriting::*;
 
 struct NormalForm<'a> {
-    table: &'a [u32],
+    words: &'a [u32],
     until_like: Vec<usize>,
     weight: Vec<u32>, // of each word's bit; 0 where it has none
     out: Numbering,
@@ -316,8 +340,8 @@ impl NormalForm<'_> {
 
     fn part(&mut self, choice: u32) -> Result<u32, Refused> {
         self.choice = choice;
-        self.memo = vec![[0; 3]; self.table.len() + 1];
-        let mut n = self.form(Opening, self.table.len())?;
+        self.memo = vec![[0; 3]; self.words.len() + 1];
+        let mut n = self.form(Opening, self.words.len())?;
         for j in self.chosen([U, M]) {
             let g = self.out.put(FALSE, 0, 0)?;
             let f = self.out.put(TRUE, 0, 0)?;
@@ -338,7 +362,7 @@ impl NormalForm<'_> {
     }
 
     fn chosen(&self, kinds: [u32; 2]) -> Vec<usize> {
-        let member = |&j: &usize| self.choice & self.weight[j] != 0 && kinds.contains(&kind(self.table[j - 1]));
+        let member = |&j: &usize| self.choice & self.weight[j] != 0 && kinds.contains(&kind(self.words[j - 1]));
         self.until_like.iter().copied().filter(member).collect()
     }
 
@@ -348,7 +372,7 @@ impl NormalForm<'_> {
         if known != 0 {
             return Ok(known);
         }
-        let w = self.table[j - 1];
+        let w = self.words[j - 1];
         let chosen = self.choice & self.weight[j] != 0;
         let n = match (m, kind(w)) {
             (_, k @ 1..=4) => self.out.put(k, 0, right(w) as u32)?,

@@ -4,7 +4,7 @@ use crate::library::{Answer, Recording};
 
 pub fn judge(table: &[u32], recording: Recording, scratch: &mut [u64]) -> Result<Answer, Refused> {
     let Recording { samples, start, driven } = recording;
-    check(table, false, 16383)?;
+    let rule = check(table, false, 16383)?;
     match samples.len() {
         0 => return Err((13, 0)),
         4097.. => return Err((14, 0)),
@@ -15,20 +15,20 @@ pub fn judge(table: &[u32], recording: Recording, scratch: &mut [u64]) -> Result
         return Err((22, 0));
     }
     let undriven = |w: &u32| matches!(w >> 28, 3 | 4) && (w & 0x3FFF) as usize > driven;
-    if let Some(j) = table.iter().position(undriven) {
+    if let Some(j) = rule.iter().position(undriven) {
         return Err((21, j + 1));
     }
     let words = (samples.len() + 63) / 64;
-    if scratch.len() < table.len() * words {
+    if scratch.len() < rule.len() * words {
         return Err((16, 0));
     }
-    for (j, &w) in table.iter().enumerate() {
+    for (j, &w) in rule.iter().enumerate() {
         let (rows, row) = scratch.split_at_mut(j * words);
         // The row of an operand; a field that is no operand has none.
         let operand = |n: u32| rows.get((n as usize).saturating_sub(1) * words..).unwrap_or(&[]);
         write_row(w, operand(w >> 14 & 0x3FFF), operand(w & 0x3FFF), samples, start, &mut row[..words]);
     }
-    let row = &scratch[(table.len() - 1) * words..];
+    let row = &scratch[(rule.len() - 1) * words..];
     let held = (0..samples.len()).filter(|&i| bit(row, i)).count();
     let failing = (0..samples.len()).find(|&i| !bit(row, i)).unwrap_or(samples.len());
     Ok((bit(row, 0), held, failing))

@@ -1,4 +1,5 @@
-// Rules written as text, read into written tables: words listed as first needed, an identical word used again.
+// Rules written as text, read into written tables: the header, then words listed as first needed, an identical word used again.
+use crate::hashmap::header_of;
 
 pub struct Rule {
     pub name: String,
@@ -23,26 +24,32 @@ pub fn read(text: &str) -> Vec<Rule> {
 
 pub fn table(rule: &str) -> Vec<u32> {
     let text = rule.bytes().filter(|c| !c.is_ascii_whitespace()).collect();
-    let mut reader = Reader { text, at: 0, table: Vec::new() };
+    let mut reader = Reader { text, at: 0, words: Vec::new() };
     reader.implies();
     assert_eq!(reader.at, reader.text.len(), "nothing is left of {rule}");
-    reader.table
+    headed(reader.words)
+}
+
+// Words that pass the checks, with their header in front. Over 16,383 have none; the highest count stands there.
+pub fn headed(words: Vec<u32>) -> Vec<u32> {
+    let header = if words.len() <= 16383 { header_of(&words) } else { 16383 };
+    [vec![header], words].concat()
 }
 
 // Each method reads one formula and answers the number of its word; an operand is read, and so numbered, before its word.
 struct Reader {
     text: Vec<u8>,
     at: usize,
-    table: Vec<u32>,
+    words: Vec<u32>,
 }
 
 impl Reader {
     fn put(&mut self, w: u32) -> usize {
-        if let Some(i) = self.table.iter().position(|&x| x == w) {
+        if let Some(i) = self.words.iter().position(|&x| x == w) {
             return i + 1;
         }
-        self.table.push(w);
-        self.table.len()
+        self.words.push(w);
+        self.words.len()
     }
 
     fn takes(&mut self, sign: &str) -> bool {

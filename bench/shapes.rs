@@ -1,6 +1,6 @@
-// Tables and recordings that the figures are measured on, the same in every run.
+// Tables, with their header, and recordings that the figures are measured on, the same in every run.
 use crate::rules;
-use crate::rules::word;
+use crate::rules::{headed, word};
 
 // The operators of plain and of written tables, and of the dialect without W and M.
 pub const PLAIN: [u32; 7] = [5, 6, 7, 8, 9, 10, 11];
@@ -25,21 +25,21 @@ pub fn mixed(n: usize, kinds: &[u32]) -> Vec<u32> {
 // The same over more letters, which are used from the last one down.
 pub fn over_letters(letters: usize, n: usize, kinds: &[u32]) -> Vec<u32> {
     let mut numbers = Numbers(1);
-    let mut table: Vec<u32> = (1..=letters).map(|letter| word(3, 0, letter)).collect();
+    let mut words: Vec<u32> = (1..=letters).map(|letter| word(3, 0, letter)).collect();
     for letter in (1..letters).rev() {
-        table.push(word(5 + (letter % 2) as u32, table.len(), letter));
+        words.push(word(5 + (letter % 2) as u32, words.len(), letter));
     }
-    while table.len() < n {
-        let last = table.len();
+    while words.len() < n {
+        let last = words.len();
         let other = 1 + numbers.next(last);
         let kind = kinds[numbers.next(kinds.len())];
-        table.push(match kind {
+        words.push(match kind {
             7 | 12..=14 => word(kind, 0, last),
             _ if numbers.next(2) == 0 => word(kind, last, other),
             _ => word(kind, other, last),
         });
     }
-    table
+    headed(words)
 }
 
 // Every letter at random.
@@ -73,13 +73,13 @@ pub fn nested(fixpoints: usize) -> Vec<u32> {
 
 // A chain of n words in which every until-like word stands over and, or and X words.
 fn chain(n: usize) -> Vec<u32> {
-    let mut table = vec![word(3, 0, 1), word(3, 0, 2), word(4, 0, 3), word(5, 1, 2), word(6, 3, 4)];
+    let mut words = vec![word(3, 0, 1), word(3, 0, 2), word(4, 0, 3), word(5, 1, 2), word(6, 3, 4)];
     let every = (n - 5) / 8;
     let mut fixpoints = 0;
-    while table.len() < n {
-        let last = table.len();
+    while words.len() < n {
+        let last = words.len();
         let at = last - 5;
-        table.push(if at % every == every - 1 && fixpoints < 8 {
+        words.push(if at % every == every - 1 && fixpoints < 8 {
             fixpoints += 1;
             word(8 + fixpoints as u32 % 4, last - 1, last)
         } else if at % 3 == 0 {
@@ -88,16 +88,16 @@ fn chain(n: usize) -> Vec<u32> {
             word(5 + (at % 2) as u32, last, 1 + at % 3)
         });
     }
-    table
+    headed(words)
 }
 
 // A plain table of n words, each over the one before it, so that a step that goes down by calls goes as deep as it can: X words, and
 // from the top on so many W words.
 pub fn deep(n: usize, fixpoints: usize) -> Vec<u32> {
-    let mut table = vec![word(3, 0, 1)];
-    while table.len() < n {
-        let last = table.len();
-        table.push(if n - last <= fixpoints { word(9, last, last) } else { word(7, 0, last) });
+    let mut words = vec![word(3, 0, 1)];
+    while words.len() < n {
+        let last = words.len();
+        words.push(if n - last <= fixpoints { word(9, last, last) } else { word(7, 0, last) });
     }
-    table
+    headed(words)
 }

@@ -7,7 +7,7 @@ pub fn read(text: &[u8], result: &mut [u32]) -> Result<usize, Refused> {
     if text.len() > 1024 {
         return Err((20, 0));
     }
-    let mut reader = Reader { text, at: 0, out: Numbering::new(text.len()) };
+    let mut reader = Reader { text, at: 0, out: Numbering::new(1 + text.len()) };
     reader.spaces();
     reader.rule()?;
     reader.spaces();
@@ -17,7 +17,7 @@ pub fn read(text: &[u8], result: &mut [u32]) -> Result<usize, Refused> {
     let words = reader.out.words;
     match words.len() {
         65.. => Err((2, 0)),
-        n if n > result.len() => hand_over(Err((12, 0)), result),
+        n if 1 + n > result.len() => hand_over(Err((12, 0)), result),
         _ => hand_over(Ok(words), result),
     }
 }

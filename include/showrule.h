@@ -1,16 +1,19 @@
 /* Show rules for desks: the C names of the proved static library (rt staticlib boundary writes target/staticlib/libboundary.a).
  *
- * A rule is a table of 32-bit words numbered from 1; document 01 says what they mean. Every function takes any numbers and any words,
- * and answers 0 when the call is accepted, or the number of the refusal, the first of document 01's check table that applies. The
- * place is then the number of the faulty word for 3 to 11 and 21, that of a byte of the text for 19, and 0 otherwise; accepted, it is
- * 0. No function allocates, keeps a pointer, reads or writes a file, or ends the program. They may run on several threads at once, on memory
- * that no other call writes.
+ * A rule is a table of 32-bit words: a header, and then words numbered from 1; document 01 says what they mean. The header is of kind 0,
+ * its left field is the class byte of the last word, or 0 where a word of kind 12 to 15 occurs, and its right field the number of words
+ * after it, never 0 (SHOWRULE_HEADER makes one). A length counts the header; the number of words, and so every limit, leaves it out.
+ *
+ * Every function takes any numbers and any words, and answers 0 when the call is accepted, or the number of the refusal, the first that
+ * applies in the order of documents 01 and 02. The place is then the number of the faulty word for 3 to 11 and 21, that of a byte of the
+ * text for 19, and 0 otherwise; accepted, it is 0. No function allocates, keeps a pointer, reads or writes a file, or ends the program.
+ * They may run on several threads at once, on memory that no other call writes.
  *
  * What a caller keeps to; nothing checks it:
  *   - A slice is a pointer and then its length, in elements, not in bytes. It is memory of the caller, aligned for its element, that
  *     may be read, and where the pointer is to non-const also written, for that length. Of length 0 it is the empty slice, whatever
  *     the pointer, the null pointer too.
- *   - A pointer to a single number (place, form_words, ..) is never null. What the number held before a call matters only for
+ *   - A pointer to a single number (place, form_length, ..) is never null. What the number held before a call matters only for
  *     judged and held.
  *   - A slice or number that is written lies apart from every other slice and number of the same call.
  *   - A bool is 0 or 1.
@@ -31,8 +34,8 @@ extern "C" {
 /* The numbers that a call answers. */
 enum {
     SHOWRULE_ACCEPTED = 0,
-    SHOWRULE_NO_WORD = 1,              /* the table has no word */
-    SHOWRULE_TOO_MANY_WORDS = 2,       /* it has more than the step takes */
+    SHOWRULE_NO_WORD = 1,              /* the slice is empty, or the count in the header is 0 */
+    SHOWRULE_TOO_MANY_WORDS = 2,       /* the count is more than the step takes */
     SHOWRULE_KIND_ZERO = 3,            /* a word of kind 0 */
     SHOWRULE_NOT_PLAIN = 4,            /* kind 12 to 15 in a step that takes plain tables only */
     SHOWRULE_OPERAND_ZERO = 5,         /* an operand field is 0 */
@@ -42,7 +45,7 @@ enum {
     SHOWRULE_REPEATED = 9,             /* a word is the same as an earlier one */
     SHOWRULE_UNUSED = 10,              /* a word that is not the last is used by none */
     SHOWRULE_TOO_MANY_UNTIL_LIKE = 11, /* over 8 until-like words (kinds 8 to 11); the place is the ninth */
-    SHOWRULE_RESULT_TOO_SHORT = 12,    /* the result is longer than the slice that is lent for it */
+    SHOWRULE_RESULT_TOO_SHORT = 12,    /* the result, its header too, is longer than the slice that is lent for it */
     SHOWRULE_NO_SAMPLE = 13,           /* the recording has no sample */
     SHOWRULE_TOO_MANY_SAMPLES = 14,    /* it has over 4,096 */
     SHOWRULE_LOOP_START_OUTSIDE = 15,  /* the loop start is not below the number of samples */
@@ -51,10 +54,12 @@ enum {
     SHOWRULE_NOT_GRAMMAR = 19,         /* the text departs from the grammar; the place is the byte at which it does */
     SHOWRULE_TEXT_TOO_LONG = 20,       /* the text has over 1,024 bytes */
     SHOWRULE_LETTER_NOT_DRIVEN = 21,   /* a word names a letter that the recording does not drive; the place is the lowest such word */
-    SHOWRULE_TOO_MANY_DRIVEN = 22      /* the recording says that it drives over 32 letters */
+    SHOWRULE_TOO_MANY_DRIVEN = 22,     /* the recording says that it drives over 32 letters */
+    SHOWRULE_COUNT_DIFFERS = 23,       /* the count in the header is not the number of words after it */
+    SHOWRULE_WRONG_HEADER = 24         /* the header's kind is not 0, or its class not that of the table */
 };
 
-/* The most of each that a call takes. */
+/* The most of each that a call takes; of words, beside the header. */
 enum {
     SHOWRULE_MOST_BYTES = 1024,       /* bytes of a text, for text */
     SHOWRULE_MOST_WORDS = 16383,      /* words of a table, for check, class, dialect, judge and row */
@@ -65,17 +70,27 @@ enum {
     SHOWRULE_MOST_DRIVEN = 32         /* letters that a recording drives */
 };
 
-/* The 64-bit words of scratch that so many words and samples need. */
+/* The lengths of slices, the header included, that are always enough. */
+enum {
+    SHOWRULE_WRITTEN_ROOM = 65,       /* for the table of a text */
+    SHOWRULE_PLAIN_ROOM = 131,        /* for a plain form */
+    SHOWRULE_MOST_ROOM = 16384        /* for any table; a longer slice counts for no more */
+};
+
+/* The header of a table of so many words, 1 to 16,383, with this class byte. */
+#define SHOWRULE_HEADER(class_byte, words) ((uint32_t)(class_byte) << 14 | (uint32_t)(words))
+
+/* The 64-bit words of scratch that so many words and samples need; the header needs none. */
 #define SHOWRULE_SCRATCH_WORDS(words, samples) ((size_t)(words) * (((size_t)(samples) + 63) / 64))
 
-/* Checks 1 to 10 of a table: a plain one (kinds 1 to 11) where plain is true, else a written one, of at most limit words. A limit over
- * 16,383 counts for 16,383. It writes nothing but the place. */
-uint32_t showrule_check(const uint32_t *table, size_t words, bool plain, size_t limit, size_t *place);
+/* The checks of a table: 1, 2 and 23, then 3 to 10, then 24; of a plain one (kinds 1 to 11) where plain is true, else of a written one, of
+ * at most limit words. A limit over 16,383 counts for 16,383. It writes nothing but the place. */
+uint32_t showrule_check(const uint32_t *table, size_t length, bool plain, size_t limit, size_t *place);
 
-/* The class byte of each word of a plain table of at most 16,383 words, checks 1 to 10 and 12. Accepted, the first `words` bytes are the
- * class bytes in the order of the words, and later bytes stay. Refused by 12, every byte of the slice is 0; refused otherwise, it is
- * as it was. Bit 0 is class zero, 1 Sigma-1, 2 Pi-1, 3 Delta-1, 4 Sigma-2, 5 Pi-2, 6 Delta-2; bit 7 is 0. */
-uint32_t showrule_classify(const uint32_t *table, size_t words, uint8_t *bytes, size_t room, size_t *place);
+/* The class byte of each word of a plain table of at most 16,383 words, the checks of a table and 12. Accepted, the first length - 1 bytes
+ * are the class bytes in the order of the words, the header having none, and later bytes stay. Refused by 12, every byte of the slice is
+ * 0; refused otherwise, it is as it was. Bit 0 is class zero, 1 Sigma-1, 2 Pi-1, 3 Delta-1, 4 Sigma-2, 5 Pi-2, 6 Delta-2; bit 7 is 0. */
+uint32_t showrule_classify(const uint32_t *table, size_t length, uint8_t *bytes, size_t room, size_t *place);
 
 /* The written table of a rule typed as text: true, false, p1 to p32, the prefixes ! X F G, and the two-sided & | -> U W R M, always with
  * their two operands in round brackets; spaces (byte 32) may stand round these symbols, and nothing else, so that no final line end and
@@ -85,51 +100,51 @@ uint32_t showrule_classify(const uint32_t *table, size_t words, uint8_t *bytes, 
  *       the text ends early.
  *   2   the table has over 64 words.
  *   12  it is longer than the result.
- * Accepted, *table_words is its length, its words, numbered by first need with sharing, are the first of the result, and later words
- * stay; 64 words are always enough. It passes checks 1 to 10. Refused by 12, every word of the result is 0; refused otherwise, it is as
- * it was. Refused, *table_words is 0. */
-uint32_t showrule_text(const uint8_t *text, size_t bytes, uint32_t *result, size_t room, size_t *table_words, size_t *place);
+ * Accepted, *table_length is its length, header and words, numbered by first need with sharing, are the first of the result, and later
+ * words stay; 65 words are always enough. It passes the checks of a table. Refused by 12, every word of the result is 0; refused
+ * otherwise, it is as it was. Refused, *table_length is 0. */
+uint32_t showrule_text(const uint8_t *text, size_t bytes, uint32_t *result, size_t room, size_t *table_length, size_t *place);
 
-/* The plain form of a written table of at most 64 words, checks 1 to 10 and 12. Accepted, *form_words is its length, its words are the
- * first of the result, and later words stay; 130 words are always enough. Refused by 12, every word of the result is 0; refused
- * otherwise, it is as it was. Refused, *form_words is 0. */
-uint32_t showrule_plain(const uint32_t *table, size_t words, uint32_t *result, size_t room, size_t *form_words, size_t *place);
+/* The plain form of a written table of at most 64 words, the checks of a table and 12. Accepted, *form_length is its length, its header and
+ * words are the first of the result, and later words stay; 131 words are always enough. Refused by 12, every word of the result is 0;
+ * refused otherwise, it is as it was. Refused, *form_length is 0. */
+uint32_t showrule_plain(const uint32_t *table, size_t length, uint32_t *result, size_t room, size_t *form_length, size_t *place);
 
-/* The normal form of a plain table of at most 130 words, checks 1 to 12. Accepted, *form_words is its length, its words are the first of
- * the result, and later words stay. Refused by 12, every word of the result is 0; refused otherwise, it is as it was. Refused,
- * *form_words is 0. A result counts for 16,383 words at most. */
-uint32_t showrule_normal(const uint32_t *table, size_t words, uint32_t *result, size_t room, size_t *form_words, size_t *place);
+/* The normal form of a plain table of at most 130 words, the checks of a table, 11 and 12. Accepted, *form_length is its length, its header
+ * and words are the first of the result, and later words stay. Refused by 12, every word of the result is 0; refused otherwise, it is as
+ * it was. Refused, *form_length is 0. A result counts for 16,383 words and the header at most. */
+uint32_t showrule_normal(const uint32_t *table, size_t length, uint32_t *result, size_t room, size_t *form_length, size_t *place);
 
 /* The table of a plain table's conversion to the dialect without W and M: a W b becomes b R (a or b), and a M b becomes b U (a and b);
- * a table that has neither is renumbered only. It takes at most 16,383 words, and makes checks 1 to 10, kinds 12 to 15 being 4, and 12.
- * Accepted, *form_words is the conversion's length, its words, numbered by first need with sharing, are the first of the result, and
- * later words stay; n words become at most 2 n + 2, but over 16,383 fit no slice. The result holds where the table does, passes checks 1
- * to 10 as a plain table, and for each word of the table has one whose class byte is the same. Refused by 12, every word of the result
- * is 0; refused otherwise, it is as it was. Refused, *form_words is 0. */
-uint32_t showrule_dialect(const uint32_t *table, size_t words, uint32_t *result, size_t room, size_t *form_words, size_t *place);
+ * a table that has neither is renumbered only. It takes at most 16,383 words, and makes the checks of a table, kinds 12 to 15 being 4, and
+ * 12. Accepted, *form_length is the conversion's length, its header and words, numbered by first need with sharing, are the first of the
+ * result, and later words stay; n words become at most 2 n + 2, beside the header, but over 16,383 fit no slice. The result holds where
+ * the table does, passes the checks of a plain table, and for each word of the table has one whose class byte is the same. Refused by 12,
+ * every word of the result is 0; refused otherwise, it is as it was. Refused, *form_length is 0. */
+uint32_t showrule_dialect(const uint32_t *table, size_t length, uint32_t *result, size_t room, size_t *form_length, size_t *place);
 
-/* The whole way, from a written table to its normal form: showrule_plain into the slice plain, then showrule_normal on exactly the words
- * that it answered. plain is left as showrule_plain leaves it. Where the plain form is refused, the number and the place are those of
- * that refusal, and the result is as it was; else number, place, *form_words and the result are as showrule_normal leaves them, and the
- * place of 11 is the number of a word of the plain form. A 12 is of the slice in which every word is 0. */
-uint32_t showrule_form(const uint32_t *table, size_t words, uint32_t *plain, size_t plain_room, uint32_t *result, size_t room,
-                       size_t *form_words, size_t *place);
+/* The whole way, from a written table to its normal form: showrule_plain into the slice plain, then showrule_normal on exactly the table
+ * that it answered, header and words. plain is left as showrule_plain leaves it. Where the plain form is refused, the number and the place
+ * are those of that refusal, and the result is as it was; else number, place, *form_length and the result are as showrule_normal leaves
+ * them, and the place of 11 is the number of a word of the plain form. A 12 is of the slice in which every word is 0. */
+uint32_t showrule_form(const uint32_t *table, size_t length, uint32_t *plain, size_t plain_room, uint32_t *result, size_t room,
+                       size_t *form_length, size_t *place);
 
 /* Judges a rule, a table of at most 16,383 words, written or plain, over a recording of `count` samples: after the last comes the one at
  * the loop start again, for ever. The recording drives the letters 1 to `driven`, 0 to 32 of them: a rule that names a higher one is
- * refused by 21, and the bits of the samples above the driven ones are never looked at. Checks 1 to 10, 13 to 15, 22, 21, 16 and 17, in
- * this order. Accepted, *holds says whether the rule holds at moment 0, *moments at how many of the recorded moments, *failing is the
- * first of them at which it fails (count if none); *judged is one more, and so is *held if it held at moment 0. The scratch then starts
- * with a row for each word, in their order, each of (count + 63) / 64 words of 64 bits: moment i is bit i % 64 of the row's word i / 64,
- * unused high bits are 0; later words stay. Refused, *holds is false, *moments and *failing are 0, and *judged, *held and the scratch
- * are as they were. */
-uint32_t showrule_judge(const uint32_t *table, size_t words, const uint32_t *samples, size_t count, size_t start, size_t driven,
+ * refused by 21, and the bits of the samples above the driven ones are never looked at. The checks of a table, then 13 to 15, 22, 21, 16
+ * and 17, in this order. Accepted, *holds says whether the rule holds at moment 0, *moments at how many of the recorded moments, *failing
+ * is the first of them at which it fails (count if none); *judged is one more, and so is *held if it held at moment 0. The scratch then
+ * starts with a row for each word, in their order, the header having none, each of (count + 63) / 64 words of 64 bits: moment i is bit
+ * i % 64 of the row's word i / 64, unused high bits are 0; later words stay. Refused, *holds is false, *moments and *failing are 0, and
+ * *judged, *held and the scratch are as they were. */
+uint32_t showrule_judge(const uint32_t *table, size_t length, const uint32_t *samples, size_t count, size_t start, size_t driven,
                         uint64_t *scratch, size_t room, uint32_t *judged, uint32_t *held, bool *holds, size_t *moments, size_t *failing,
                         size_t *place);
 
 /* The row call: the rows of showrule_judge, with no tally and so without check 17. Accepted, the rule's own row is the part of the scratch
  * of *row_words words from scratch[*from] on. Refused, both are 0, and the scratch is as it was. */
-uint32_t showrule_row(const uint32_t *table, size_t words, const uint32_t *samples, size_t count, size_t start, size_t driven,
+uint32_t showrule_row(const uint32_t *table, size_t length, const uint32_t *samples, size_t count, size_t start, size_t driven,
                       uint64_t *scratch, size_t room, size_t *from, size_t *row_words, size_t *place);
 
 #ifdef __cplusplus

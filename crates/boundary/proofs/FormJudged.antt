@@ -10,6 +10,8 @@ use Rattle.logic.proofs.Tests.{T-same}
 use Rattle.logic.proofs.Lasso.Truth.{truth-holds}
 use Rattle.refusals.specs.declared.Outcome.the-variants.{Accepted}
 use Rattle.table.specs.Table.{rule}
+use Rattle.table.specs.Header.{body}
+use Rattle.table.proofs.Header.{accepted-headed}
 use Rattle.row_words.specs.Row.{row, rowWords}
 use Rattle.claims.specs.Claim.{Kept}
 use Rattle.evaluation.specs.Judging.{lassoOf, rowOf, judgement, rowOutcome, lastRow}
@@ -20,12 +22,14 @@ use Rattle.judge_laws.proofs.Promise.{rule-drives}
 module _ (t form : List ℕ) (n : ℕ) (kept : Kept t form n) (samples : List ℕ) (start driven : ℕ) (scratch : List ℕ)
     (accepted : rowOutcome t samples start driven scratch ≡ Accepted) where
   -- a scratch that has the words of its rows is all that the form still needs
-  pub form-accepted : (scratch′ : List ℕ) → length (take n form) * rowWords (length samples) ≤ length scratch′ → rowOutcome (take n form) samples start driven scratch′ ≡ Accepted
+  pub form-accepted : (scratch′ : List ℕ) → length (body (take n form)) * rowWords (length samples) ≤ length scratch′ → rowOutcome (take n form) samples start driven scratch′ ≡ Accepted
   unfolding rowOutcome
   form-accepted scratch′ room =
       let f = accepted-facts t samples start driven scratch accepted in
+      let h = accepted-headed _ _ (take n form) (kept .accepted) in
       judgeable-accepted (take n form) (length samples) start driven (length scratch′) (record {
-        accepted = kept .accepted;
+        accepted = h .words;
+        whole = h .whole;
         some = f .some;
         few = f .few;
         inside = f .inside;
@@ -35,14 +39,14 @@ module _ (t form : List ℕ) (n : ℕ) (kept : Kept t form n) (samples : List �
       })
 
   -- the rows of both are the same, and with them all that is read off a row
-  pub same-truth : truth (lassoOf samples start driven) (rule (take n form)) ≡ truth (lassoOf samples start driven) (rule t)
+  pub same-truth : truth (lassoOf samples start driven) (rule (body (take n form))) ≡ truth (lassoOf samples start driven) (rule (body t))
   same-truth = fun-ext (λ i.
       let r : Lasso = lassoOf samples start driven in
-      T-same _ _ (Iff·trans (truth-holds r (rule (take n form)) i) (Iff·trans (kept .holds r (rule-drives t samples start driven scratch accepted) i) (Iff·symm (truth-holds r (rule t) i)))))
+      T-same _ _ (Iff·trans (truth-holds r (rule (body (take n form))) i) (Iff·trans (kept .holds r (rule-drives t samples start driven scratch accepted) i) (Iff·symm (truth-holds r (rule (body t)) i)))))
 
   pub same-row : lastRow Accepted (take n form) samples start driven ≡ lastRow Accepted t samples start driven
   unfolding lastRow rowOf
   same-row = ap (row (length (lassoOf samples start driven .samples))) same-truth
 
-  pub same-judgement : judgement (truth (lassoOf samples start driven) (rule (take n form))) (length samples) ≡ judgement (truth (lassoOf samples start driven) (rule t)) (length samples)
+  pub same-judgement : judgement (truth (lassoOf samples start driven) (rule (body (take n form)))) (length samples) ≡ judgement (truth (lassoOf samples start driven) (rule (body t))) (length samples)
   same-judgement = ap (λ f. judgement f (length samples)) same-truth

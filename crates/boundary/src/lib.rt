@@ -1,11 +1,10 @@
 // The library for C and Rust: each step under a C name, over slices and numbers alone. Every function answers document 01's
 // refusal number, 0 when the call is accepted, and writes the place to a lent number.
 ghost use mathlib.Core.Path.{_≡_};
-ghost use Prim.Native.Nat.{min};
 ghost use lib.ListN.{length};
 ghost use Rattle.refusals.specs.Refusals.{outcomeNumber, outcomePlace};
 ghost use Rattle.table.specs.Limits.{desk};
-ghost use Rattle.table.specs.Checks.{checked};
+ghost use Rattle.table.specs.Header.{body, headedChecked};
 ghost use Rattle.table.specs.Frame.{classStep, plainStep, normalStep, dialectStep, outcomeOf, answerOf, resultOf};
 ghost use Rattle.text.specs.Text.{textStep};
 ghost use Rattle.claims.specs.Whole.{wholeAnswer, wholeResult};
@@ -17,10 +16,10 @@ use replies::reply;
 
 #[no_mangle]
 pub extern "C" fn showrule_check(table: &[u32], plain: bool, limit: usize, place: &mut usize) -> u32
-    ensures { λ r. ⌜ r ≡ outcomeNumber (checked plain (min limit 16383) (now (table .entry))) ⌝ }
-    ensures { λ r. ⌜ now (place .exit) ≡ outcomePlace (checked plain (min limit 16383) (now (table .entry))) ⌝ }
+    ensures { λ r. ⌜ r ≡ outcomeNumber (headedChecked plain limit (now (table .entry))) ⌝ }
+    ensures { λ r. ⌜ now (place .exit) ≡ outcomePlace (headedChecked plain limit (now (table .entry))) ⌝ }
 {
-    reply(reading::check(table, plain, limit), place)
+    reply(heading::check(table, plain, limit), place)
 }
 
 // One byte a word.
@@ -166,7 +165,7 @@ pub extern "C" fn showrule_row(
     place: &mut usize,
 ) -> u32
     ensures { λ r. ⌜ RowReply
-        (rowOutcome (now (table .entry)) (now (samples .entry)) start driven (now (scratch .entry))) (length (now (table .entry))) (length (now (samples .entry)))
+        (rowOutcome (now (table .entry)) (now (samples .entry)) start driven (now (scratch .entry))) (length (body (now (table .entry)))) (length (now (samples .entry)))
         r (now (from .exit)) (now (words .exit)) (now (place .exit)) ⌝ }
     ensures { λ r. ⌜ now (scratch .exit) ≡ scratchAfter
         (rowOutcome (now (table .entry)) (now (samples .entry)) start driven (now (scratch .entry)))

@@ -1,8 +1,8 @@
 // The runner's input: words, and the tables and recordings that a case is about.
 
 // A case in words, in this order: the step (1 check, 2 class, 3 plain form, 4 normal form, 5 whole way, 6 judge, 7 row call, 8 text,
-// 9 dialect); how many words of a chain the table starts with, and how many are listed after it; the number of a word that is replaced
-// (0: none), and the word; the rooms of the lent slices; whether plain tables only, and the limit, of the check; the number of samples,
+// 9 dialect); how many words of a chain the table has after its header, and how many are listed, the header and those after the chain; the
+// number of a word that is replaced, the header being the first (0: none), and the word; the rooms of the lent slices; whether plain tables only, and the limit, of the check; the number of samples,
 // the loop start, the driven count, the tally, and the seed of the samples (0: they are listed). The listed words follow, of a text a
 // byte a word, then the listed samples.
 pub struct Case {
@@ -80,15 +80,18 @@ pub fn bytes(words: &[u32], out: &mut [u8]) {
     }
 }
 
-// Word k, counted from 0, of a chain of n words: letter 1, then X of the word before.
+// Word k, the header being number 0, of a chain of n words: letter 1, then X of the word before.
 fn chain_word(k: usize, n: usize) -> u32 {
-    if n <= k {
+    if k == 0 {
         return 0;
     }
-    if k == 0 {
+    if n < k {
+        return 0;
+    }
+    if k == 1 {
         return 0x30000001;
     }
-    0x70000000 + (k % 16384) as u32
+    0x70000000 + ((k - 1) % 16384) as u32
 }
 
 fn chain(t: &mut [u32], n: usize) {
@@ -120,10 +123,20 @@ fn replace(t: &mut [u32], at: usize, word: u32) {
     }
 }
 
-// The table of a case: a chain, then listed words, one of them replaced; whether there were so many.
+// The listed words of a table: the header before the chain, which has `from` words, and the others after it.
+fn around(t: &mut [u32], from: usize, to: usize) -> bool {
+    if to <= from {
+        return true;
+    }
+    let header = listed(t, 0, 1);
+    let others = listed(t, from + 1, to);
+    header && others
+}
+
+// The table of a case: its header, a chain, then listed words, one of them replaced; whether there were so many.
 pub fn table(t: &mut [u32], from: usize, to: usize, at: usize, word: u32) -> bool {
     chain(t, from);
-    let there = listed(t, from, to);
+    let there = around(t, from, to);
     replace(t, at, word);
     there
 }

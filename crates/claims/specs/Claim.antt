@@ -1,4 +1,4 @@
--- Demand 3 as one claim, over the written table, both slices before and after the call, and the answer.
+-- Demand 3 as one claim, over the written table with its header, both slices before and after the call, and the answer.
 use Prim.Native.Nat.{ℕ, _+_, _*_, _^_, _≤_}
 use mathlib.Core.Path.{_≡_}
 use mathlib.Core.Logic.{_↔_, _⊎_}
@@ -16,10 +16,9 @@ use Rattle.table.specs.declared.answer.Answer.{Answer}
 use Rattle.table.specs.declared.answer.Answer.the-variants.{Made, Refused}
 use Rattle.table.specs.declared.limits.Limits.{Limits}
 use Rattle.refusals.specs.Refusals.{first, numberOf}
-use Rattle.table.specs.Checks.{tableChecks, checked}
+use Rattle.table.specs.Header.{headed, body, headedChecks, headedChecked}
 use Rattle.table.specs.Limits.{mostWords}
-use Rattle.table.specs.Numbering.{fits}
-use Rattle.table.specs.StepChecks.{fixpointChecks, letterChecks}
+use Rattle.table.specs.StepChecks.{fixpointChecks, resultFits, letterChecks}
 use Rattle.table.specs.Table.{rule}
 use Rattle.table.specs.Steps.{plainTable, fixpoints, normalTable}
 use Rattle.table.specs.Frame.{plainStep, resultOf, answerNumber}
@@ -29,27 +28,30 @@ use Rattle.claims.specs.Whole.{wholeAnswer, wholeResult}
 abbrev pub bound : ℕ → ℕ → ℕ
 bound n k = 2 ^ k * (5 * n + 3 * k + 1) + 2
 
--- the n words at the front of a slice are the form of a written table: the defined words; they hold at every position of every lasso that drives
--- the rule's letters where the written rule does; they lie in Delta-2; they are no more than the bound; they name no letter that the rule lacks,
--- so every lasso that drives the rule's letters drives theirs; and so the judge accepts them wherever it accepts the written table: by 1 to 10, and
--- by 21 for every driven count
+-- the first n words of a slice, which has as many, are the form of a written table, each with its header before it: the defined words, after the
+-- header that is theirs. Of the words after the header: they hold at every position of every lasso that drives the rule's letters where the written
+-- rule does; they lie in Delta-2; they are no more than the bound; they name no letter that the rule lacks, so every lasso that drives the rule's
+-- letters drives theirs. And so the judge accepts the form wherever it accepts the written table: by the checks of a table, and by 21 for every
+-- driven count. It is a plain table, which the class step and the dialect take too
 pub record Kept (t form : List ℕ) (n : ℕ) : Type 0 where
-  pub words : take n form ≡ normalTable (plainTable t)
-  pub holds : (r : Lasso) → Drives r (rule t) → (i : ℕ) → Holds (word r) (rule (take n form)) i ↔ Holds (word r) (rule t) i
-  pub class : Δ₂ (rule (take n form))
-  pub short : n ≤ bound (length (plainTable t)) (length (fixpoints (plainTable t)))
-  pub letters : (m : ℕ) → Lacks m (rule t) → Lacks m (rule (take n form))
-  pub drives : (r : Lasso) → Drives r (rule t) → Drives r (rule (take n form))
-  pub accepted : checked false mostWords (take n form) ≡ outcome.Accepted
-  pub driven : (k : ℕ) → first (letterChecks k 1 t) ≡ outcome.Accepted → first (letterChecks k 1 (take n form)) ≡ outcome.Accepted
+  pub words : take n form ≡ headed (normalTable (plainTable (body t)))
+  pub long : length (take n form) ≡ n
+  pub holds : (r : Lasso) → Drives r (rule (body t)) → (i : ℕ) → Holds (word r) (rule (body (take n form))) i ↔ Holds (word r) (rule (body t)) i
+  pub class : Δ₂ (rule (body (take n form)))
+  pub short : length (body (take n form)) ≤ bound (length (plainTable (body t))) (length (fixpoints (plainTable (body t))))
+  pub letters : (m : ℕ) → Lacks m (rule (body t)) → Lacks m (rule (body (take n form)))
+  pub drives : (r : Lasso) → Drives r (rule (body t)) → Drives r (rule (body (take n form)))
+  pub accepted : headedChecked false mostWords (take n form) ≡ outcome.Accepted
+  pub plain : headedChecked true mostWords (take n form) ≡ outcome.Accepted
+  pub driven : (k : ℕ) → first (letterChecks k 1 (body t)) ≡ outcome.Accepted → first (letterChecks k 1 (body (take n form))) ≡ outcome.Accepted
 
--- the plain form does not fit its slice; or it does, 11 passes, and the normal form does not fit its own
+-- the plain form with its header does not fit its slice; or it does, 11 passes, and the normal form with its header does not fit its own
 abbrev pub TooLong : Limits → List ℕ → ℕ → ℕ → Type 0
 TooLong l t plainSlice formSlice =
-    (fits (length (plainTable t)) plainSlice ≡ false)
-    ⊎ ((fits (length (plainTable t)) plainSlice ≡ true)
-    × (first (fixpointChecks (l .fixpoints) 1 (plainTable t)) ≡ outcome.Accepted)
-    × (fits (length (normalTable (plainTable t))) formSlice ≡ false))
+    (resultFits (length (headed (plainTable (body t)))) plainSlice ≡ false)
+    ⊎ ((resultFits (length (headed (plainTable (body t)))) plainSlice ≡ true)
+    × (first (fixpointChecks (l .fixpoints) 1 (plainTable (body t))) ≡ outcome.Accepted)
+    × (resultFits (length (headed (normalTable (plainTable (body t))))) formSlice ≡ false))
 
 pub record Claim (l : Limits) (t plain plain′ form form′ : List ℕ) (a : Answer) : Type 0 where
   -- the whole reply, and what both slices hold
@@ -58,8 +60,8 @@ pub record Claim (l : Limits) (t plain plain′ form form′ : List ℕ) (a : An
   pub form-slice : form′ ≡ wholeResult l t (length plain) form
   -- of an answered form
   pub kept : (n : ℕ) → a ≡ Made n → Kept t form′ n
-  -- 12 exactly when the checks 1 to 10 pass and a form does not fit its slice
-  pub refused-for-length : (answerNumber a ≡ 12) ↔ ((checked false (l .written) t ≡ outcome.Accepted) × TooLong l t (length plain) (length form))
-  -- every other refusal is that of the check table: 1 to 10 of the written table, then 11 of its plain form
+  -- 12 exactly when the checks of the written table pass and a form does not fit its slice
+  pub refused-for-length : (answerNumber a ≡ 12) ↔ ((headedChecked false (l .written) t ≡ outcome.Accepted) × TooLong l t (length plain) (length form))
+  -- every other refusal is that of the check table: 1, 2, 23, 3 to 10 and 24 of the written table, then 11 of its plain form
   pub refused-by-checks : (r : Refusal) → a ≡ Refused r → (numberOf r ≡ 12 → ⊥)
-      → first (tableChecks false (l .written) t ++ fixpointChecks (l .fixpoints) 1 (plainTable t)) ≡ outcome.Refused r
+      → first (headedChecks false (l .written) t ++ fixpointChecks (l .fixpoints) 1 (plainTable (body t))) ≡ outcome.Refused r

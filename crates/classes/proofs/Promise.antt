@@ -11,22 +11,23 @@ use Rattle.logic.proofs.Hierarchy.ClassBit.{class-bit, classByte-lt}
 use Rattle.refusals.specs.declared.Outcome.{Outcome}
 use Rattle.refusals.specs.declared.Outcome.the-variants.{Accepted}
 use Rattle.table.specs.Table.{formulaOf, formulas}
+use Rattle.table.specs.Header.{body}
 use Rattle.table.specs.Steps.{classBytes}
 use Rattle.table.specs.Frame.{classStep, outcomeOf, resultBy, resultOf}
 use Rattle.class_bytes.proofs.Words.{length-classBytes, classBytes-at}
 
-module _ (t bytes : List ℕ) (accepted : outcomeOf classStep t (length bytes) ≡ Accepted) (j : ℕ) (h : j < length t) where
-  -- the byte at index j is the class byte of word number j + 1
-  pub byte-of-word : getD (resultOf classStep t bytes) j 0 ≡ classByte (formulaOf (formulas t) (suc j))
+module _ (s bytes : List ℕ) (accepted : outcomeOf classStep s (length bytes) ≡ Accepted) (j : ℕ) (h : j < length (body s)) where
+  -- the byte at index j is the class byte of word number j + 1, counted after the header
+  pub byte-of-word : getD (resultOf classStep s bytes) j 0 ≡ classByte (formulaOf (formulas (body s)) (suc j))
   unfolding resultOf formulaOf
   byte-of-word =
-      ap (λ (o : Outcome). getD (resultBy o (classBytes t) bytes) j 0) accepted
-      ∙ List·getD-append (classBytes t) (drop (length (classBytes t)) bytes) 0 j (omega (arith, length-classBytes t))
-      ∙ classBytes-at t j h
+      ap (λ (o : Outcome). getD (resultBy o (classBytes (body s)) bytes) j 0) accepted
+      ∙ List·getD-append (classBytes (body s)) (drop (length (classBytes (body s))) bytes) 0 j (omega (arith, length-classBytes (body s)))
+      ∙ classBytes-at (body s) j h
 
-  pub class-promise : (b : ℕ) → (getD (resultOf classStep t bytes) j 0 / 2 ^ b % 2 ≡ 1) ↔ Class b (formulaOf (formulas t) (suc j))
-  class-promise b = rw byte-of-word (class-bit b (formulaOf (formulas t) (suc j)))
+  pub class-promise : (b : ℕ) → (getD (resultOf classStep s bytes) j 0 / 2 ^ b % 2 ≡ 1) ↔ Class b (formulaOf (formulas (body s)) (suc j))
+  class-promise b = rw byte-of-word (class-bit b (formulaOf (formulas (body s)) (suc j)))
 
   -- bit 7 is always 0
-  pub byte-lt : getD (resultOf classStep t bytes) j 0 < 128
-  byte-lt = rw byte-of-word (classByte-lt (formulaOf (formulas t) (suc j)))
+  pub byte-lt : getD (resultOf classStep s bytes) j 0 < 128
+  byte-lt = rw byte-of-word (classByte-lt (formulaOf (formulas (body s)) (suc j)))

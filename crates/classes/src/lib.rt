@@ -10,14 +10,14 @@ pub fn classify(table: &[u32], bytes: &mut [u8]) -> Outcome
     ensures { λ r. ⌜ r ≡ outcomeOf classStep (now (table .entry)) (length (now (bytes .entry))) ⌝ }
     ensures { λ r. ⌜ now (bytes .exit) ≡ resultOf classStep (now (table .entry)) (now (bytes .entry)) ⌝ }
 {
-    match reading::check(table, true, 16383) {
+    match heading::check(table, true, 16383) {
         Outcome::Refused(r) => Outcome::Refused(r),
         Outcome::Accepted => {
-            if bytes.len() < table.len() {
+            if bytes.len() < table.len() - 1 {
                 clearing::bytes(bytes);
                 return Outcome::Refused(Refusal::ResultTooShort);
             }
-            fill::fill(table, bytes);
+            fill::fill(&table[1..], bytes);
             Outcome::Accepted
         }
     }

@@ -1,6 +1,5 @@
 // The dialect without W and M: a plain table goes in, and the table of its conversion comes out at the front of the result.
 use refusals::Outcome;
-use refusals::Refusal;
 use table::answer::Answer;
 ghost use mathlib.Core.Path.{_≡_};
 ghost use mathlib.Core.Bool.{true};
@@ -10,23 +9,30 @@ ghost use Rattle.table.specs.Checks.{checked};
 ghost use Rattle.table.specs.Frame.{dialectStep, answerOf, resultOf};
 ghost use Rattle.table.specs.Steps.{dialectTable};
 ghost use Rattle.placing.specs.Written.{Written};
+ghost use Rattle.table.specs.Header.{headed};
+ghost use Rattle.heading.specs.Finished.{Given};
 
 // The table's length, or why there is none.
 pub fn convert(table: &[u32], result: &mut [u32]) -> Answer
     ensures { λ r. ⌜ r ≡ answerOf dialectStep (now (table .entry)) (length (now (result .entry))) ⌝ }
     ensures { λ r. ⌜ now (result .exit) ≡ resultOf dialectStep (now (table .entry)) (now (result .entry)) ⌝ }
 {
-    match reading::check(table, true, 16383) {
+    match heading::check(table, true, 16383) {
         Outcome::Refused(r) => Answer::Refused(r),
-        Outcome::Accepted => {
-            let n = write(table, &mut *result);
-            if n == 0 {
-                clearing::words(result);
-                return Answer::Refused(Refusal::ResultTooShort);
-            }
-            Answer::Made(n)
-        }
+        Outcome::Accepted => answer(&table[1..], result),
     }
+}
+
+// The conversion of accepted words, under its header.
+fn answer(words: &[u32], result: &mut [u32]) -> Answer
+    requires { ⌜ checked true 16383 (now words) ≡ outcome.Accepted ⌝ }
+    ensures { λ r. ⌜ Given (headed (dialectTable (now (words .entry)))) (now (result .entry)) (now (result .exit)) r ⌝ }
+{
+    if result.len() == 0 {
+        return heading::finish(result, 0);
+    }
+    let n = write(words, &mut result[1..]);
+    heading::finish(result, n)
 }
 
 // The table at the front of the result, and its length; 0 where it does not fit. It has no more words than the draft has slots, so no

@@ -1,11 +1,12 @@
--- What is kept of every accepted table whose conversion fits (`specs/Converted`).
-use Prim.Native.Nat.{ℕ, zero, suc, _+_, _*_, _≤_, _<_}
+-- What is kept of every accepted table whose conversion fits (`specs/Converted`): first of its words, then of the table with its header.
+use Prim.Native.Nat.{ℕ, zero, suc, _+_, _*_, _≤_, _<_, min}
 use native.Mathlib.Omega.{arith}
 use mathlib.Core.Path.{_≡_, refl, sym, ap, ap₂, _∙_}
 use mathlib.Core.Bool.{true, _&&_}
 use mathlib.Core.List.{List, _++_}
 use lib.ListN.{length, getD, take, drop}
 use lib.Dec.{T}
+use borrow.Author.Tests.{le-leb, leb-true}
 use Rattle.logic.specs.Formula.{Formula, Binary, conj, disj, until, weak, release, strong, implies}
 use Rattle.logic.specs.ClassByte.{classByte}
 use Rattle.logic.specs.Letters.{Letters}
@@ -18,12 +19,15 @@ use Rattle.table.specs.declared.answer.Answer.the-variants.{Made}
 use Rattle.table.specs.Node.{Shape, none, constant, letter, unary, binary, kind, left, right, shape, kindOf, binaryKind, leftField, rightField}
 use Rattle.table.specs.Table.{formulas, formulaOf, formulaBy, rule}
 use Rattle.table.specs.Checks.{isOperand, checked}
-use Rattle.table.specs.Numbering.{fits, tableOf}
+use Rattle.table.specs.Header.{headed, body, headedChecked}
+use Rattle.table.specs.StepChecks.{resultFits}
+use Rattle.table.specs.Numbering.{tableOf}
 use Rattle.table.specs.Steps.{dialectTable}
 use Rattle.table.specs.Frame.{dialectStep, answerOf, resultOf}
 use Rattle.table.proofs.Accepted.{WellFormed, accepted-well-formed, accepted-formula}
 use Rattle.table.proofs.Shapes.{kindOf-shape}
-use Rattle.table.proofs.Frame.{answered, made-answer, made-result}
+use Rattle.table.proofs.Header.{accepted-headed, headed-accepted}
+use Rattle.table.proofs.Frame.{Answered, answered, made-answer, made-result}
 use Rattle.numbering.proofs.Building.{held-within}
 use Rattle.numbering.proofs.Built.{tableOf-built, tableOf-ordered}
 use Rattle.numbering.proofs.Formulas.{held-formula}
@@ -31,8 +35,6 @@ use Rattle.numbering.proofs.Used.{rule-tableOf, tableOf-held}
 use Rattle.numbering.proofs.Subformulas.{word-sub}
 use Rattle.numbering.proofs.Accepted.{Plain, plain-small, accepted-tableOf}
 use Rattle.normal_laws.proofs.Subformulas.{rule-plain}
-use Rattle.placing.proofs.Putting.{fits-true}
-use Rattle.placing.proofs.Placing.{true-fits}
 use Rattle.dialect_laws.specs.Converted.{Free, Counterpart, Converted}
 use Rattle.dialect_laws.proofs.Length.{dialect-short}
 use Rattle.dialect_draft.proofs.Letters.{letters-dialect}
@@ -127,61 +129,66 @@ module _ (t : List ℕ) (ok : checked true 16383 t ≡ Accepted) where
     unfolding dialectTable
     again = ap (λ (φ : Formula). tableOf (dialect φ)) dialect-rule ∙ ap tableOf (law.dialect-twice (rule t))
 
-    pub dialect-converted : Converted t (dialectTable t)
-    dialect-converted = record {
-      words = refl;
-      accepted = dialect-accepted;
-      free = dialect-free;
-      holds = λ r i. rw dialect-rule (law.dialect-holds r (rule t) i);
-      counterpart = counterpart;
-      kept = λ f. dialect-rule ∙ law.dialect-kept (rule t) (rule-free f);
-      again = again;
-    }
+-- the table that is made of an accepted one
+module _ (s : List ℕ) (ok : headedChecked true 16383 s ≡ Accepted) where
+  given : checked true 16383 (body s) ≡ Accepted
+  given = accepted-headed true 16383 s ok .words
 
--- a table of at most 8,190 words is always converted in a slice of two words for each of its words, and two more
-pub dialect-answered : (t slice : List ℕ) → checked true 16383 t ≡ Accepted → length t ≤ 8190 → 2 * length t + 2 ≤ length slice
-    → answerOf dialectStep t (length slice) ≡ Made (length (dialectTable t))
-unfolding checked
-dialect-answered t slice ok h l =
-    made-answer dialectStep t slice ok (fits-true (length (dialectTable t)) (length slice) (omega (arith, dialect-short t ok)))
+  pub dialect-converted : length (dialectTable (body s)) ≤ 16383 → Converted s (headed (dialectTable (body s)))
+  dialect-converted few = record {
+    words = refl;
+    accepted = headed-accepted true 16383 (dialectTable (body s)) (omega arith) (dialect-accepted (body s) given few);
+    free = dialect-free (body s) given few;
+    holds = λ r i. rw (dialect-rule (body s) given few) (law.dialect-holds r (rule (body s)) i);
+    counterpart = counterpart (body s) given few;
+    kept = λ f. dialect-rule (body s) given few ∙ law.dialect-kept (rule (body s)) (rule-free (body s) given f);
+    again = ap headed (again (body s) given few);
+  }
 
--- of every answered call: the words at the front of the slice
-module _ (t slice : List ℕ) (n : ℕ) (made : answerOf dialectStep t (length slice) ≡ Made n) where
-  front : take n (resultOf dialectStep t slice) ≡ dialectTable t
-  front = answered dialectStep t slice n made .front
+  -- at most 8,190 words are always converted in a slice of two words for each of them, two more, and the header
+  pub dialect-answered : (slice : List ℕ) → length (body s) ≤ 8190 → 2 * length (body s) + 3 ≤ length slice
+      → answerOf dialectStep s (length slice) ≡ Made (suc (length (dialectTable (body s))))
+  unfolding headedChecked
+  dialect-answered slice h l =
+      made-answer dialectStep s slice ok (le-leb (suc (length (dialectTable (body s)))) (min (length slice) 16384) (omega (arith, dialect-short (body s) given)))
 
-  accepted : checked true 16383 t ≡ Accepted
-  unfolding checked
-  accepted = answered dialectStep t slice n made .accepted
+-- of every answered call: the header and the words at the front of the slice
+module _ (s slice : List ℕ) (n : ℕ) (made : answerOf dialectStep s (length slice) ≡ Made n) where
+  answer : Answered dialectStep s slice n
+  answer = answered dialectStep s slice n made
 
-  few : length (dialectTable t) ≤ 16383
-  few = let a = answered dialectStep t slice n made in omega (arith, a .long, true-fits n (length slice) (a .fitting))
+  accepted : headedChecked true 16383 s ≡ Accepted
+  unfolding headedChecked
+  accepted = answer .accepted
 
-  pub made-converted : Converted t (take n (resultOf dialectStep t slice))
-  made-converted = rw front (dialect-converted t accepted few)
+  inside : n ≤ min (length slice) 16384
+  inside = leb-true n (min (length slice) 16384) (answer .fitting)
+
+  pub made-converted : Converted s (take n (resultOf dialectStep s slice))
+  made-converted = rw (answer .front) (dialect-converted s accepted (omega (arith, answer .long, inside)))
 
   -- converting them once more answers the same length, and puts the same words into every slice that they fit
   module _ (next : List ℕ) (long : n ≤ length next) where
     u : List ℕ
-    u = take n (resultOf dialectStep t slice)
+    u = take n (resultOf dialectStep s slice)
 
-    again-long : length (dialectTable u) ≡ n
+    again-long : length (headed (dialectTable (body u))) ≡ n
     unfolding u
-    again-long = ap length (made-converted .again) ∙ ap length front ∙ sym (answered dialectStep t slice n made .long)
+    again-long = ap length (made-converted .again) ∙ ap length (answer .front) ∙ sym (answer .long)
 
-    again-fits : fits (length (dialectTable u)) (length next) ≡ true
-    again-fits = fits-true (length (dialectTable u)) (length next) (omega (arith, again-long, few, answered dialectStep t slice n made .long))
+    again-fits : resultFits (length (headed (dialectTable (body u)))) (length next) ≡ true
+    again-fits = le-leb (length (headed (dialectTable (body u)))) (min (length next) 16384) (omega (arith, again-long, inside))
 
-    again-accepted : checked true 16383 u ≡ Accepted
+    again-accepted : headedChecked true 16383 u ≡ Accepted
     unfolding u
     again-accepted = made-converted .accepted
 
-    pub again-answer : answerOf dialectStep (take n (resultOf dialectStep t slice)) (length next) ≡ Made n
-    unfolding u checked
+    pub again-answer : answerOf dialectStep (take n (resultOf dialectStep s slice)) (length next) ≡ Made n
+    unfolding u headedChecked
     again-answer = made-answer dialectStep u next again-accepted again-fits ∙ ap Made again-long
 
-    pub again-result : resultOf dialectStep (take n (resultOf dialectStep t slice)) next ≡ take n (resultOf dialectStep t slice) ++ drop n next
-    unfolding u checked
+    pub again-result : resultOf dialectStep (take n (resultOf dialectStep s slice)) next ≡ take n (resultOf dialectStep s slice) ++ drop n next
+    unfolding u headedChecked
     again-result =
         made-result dialectStep u next again-accepted again-fits
         ∙ ap₂ (λ (w : List ℕ) (m : ℕ). w ++ drop m next) (made-converted .again) again-long

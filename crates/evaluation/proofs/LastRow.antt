@@ -5,7 +5,7 @@ use mathlib.Core.Bool.{Bool, false, cond}
 use mathlib.Core.List.{List, []}
 use native.Mathlib.Nat.{zero-add}
 use native.Mathlib.Omega.{arith}
-use lib.ListN.{length, getD, take, drop}
+use lib.ListN.{length, getD, take, drop, length-drop}
 use Rattle.logic.specs.Formula.{Formula, const}
 use Rattle.logic.specs.Lasso.{Lasso}
 use Rattle.logic.specs.Truth.{Sequence, truth}
@@ -16,6 +16,7 @@ use Rattle.refusals.specs.declared.Outcome.the-variants.{Accepted, Refused}
 use Rattle.refusals.specs.declared.Refusal.{Refusal}
 use Rattle.refusals.specs.Refusals.{first}
 use Rattle.table.specs.Table.{formulaOf, formulas, rule}
+use Rattle.table.specs.Header.{body}
 use Rattle.row_words.specs.Row.{rowWords}
 use Rattle.judge_checks.specs.Checks.{tallyChecks}
 use Rattle.refusals.proofs.First.{first-passed}
@@ -28,7 +29,7 @@ use Rattle.evaluation.specs.declared.answer.Judged.{Judged}
 use Rattle.tally.specs.Tallies.{isFull, counted, tallyAfter}
 use Rattle.row_filling.specs.Filling.{Fillable, lassoOf, rowOf, rowsThen}
 use Rattle.evaluation.specs.Judging.{judgement, replyBy, rowOutcome, judgeOutcome, reply, scratchAfter, lastRow, partAt}
-use Rattle.judge_checks.proofs.Outcomes.{judgeable, judge-both}
+use Rattle.judge_checks.proofs.Outcomes.{judge-both}
 use Rattle.row_filling.proofs.Scratch.{width, row-part}
 use Rattle.row_filling.proofs.WordRow.{Inside, lasso-inside, part-small, part-end, part-for}
 
@@ -38,41 +39,46 @@ pub judge-rows : (t samples : List ℕ) (start driven : ℕ) (s : List ℕ) (tal
 unfolding judgeOutcome rowOutcome
 judge-rows t samples start driven s tally e = judge-both t (length samples) start driven (length s) tally e .0
 
-pub judge-few : (t samples : List ℕ) (start driven : ℕ) (s : List ℕ) (tally : Tally) → judgeOutcome t samples start driven s tally ≡ Accepted → driven ≤ 32
+-- and its tally is not full
+pub judge-tally : (t samples : List ℕ) (start driven : ℕ) (s : List ℕ) (tally : Tally)
+    → judgeOutcome t samples start driven s tally ≡ Accepted → first (tallyChecks tally) ≡ Accepted
 unfolding judgeOutcome
-judge-few t samples start driven s tally e = judgeable t (length samples) start driven (length s) (judge-both t (length samples) start driven (length s) tally e .0) .few-driven
+judge-tally t samples start driven s tally e = judge-both t (length samples) start driven (length s) tally e .1
 
--- the part of the last row among the rows
-module _ (t samples : List ℕ) (start : ℕ) (s : List ℕ) (words : ℕ)
-    (facts : Fillable t samples start s) (wide : words ≡ rowWords (length samples)) where
+-- as many words stand before the last one as the table has, less its header and that one
+pub words-before : (t : List ℕ) → length t - 2 ≡ length (body t) - 1
+words-before t = omega (arith, length-drop 1 t)
+
+-- the part of the last row among the rows of words: n of them stand before it
+module _ (t samples : List ℕ) (start : ℕ) (s : List ℕ) (n words : ℕ)
+    (facts : Fillable t samples start s) (before : n ≡ length t - 1) (wide : words ≡ rowWords (length samples)) where
   pub some-word : 1 ≤ length t
   some-word = accepted-well-formed false 16383 t (facts .accepted) .some
 
-  last : length t - 1 < length t
+  last : n < length t
   last = omega (arith, some-word)
 
-  pub last-small : (length t - 1) * words + words ≤ 1048576
-  last-small = part-small t samples start (length t - 1) s words last facts wide
+  pub last-small : n * words + words ≤ 1048576
+  last-small = part-small t samples start n s words last facts wide
 
-  pub last-end : (length t - 1) * words + words ≤ length s
-  last-end = part-end t samples start (length t - 1) s words last facts wide
+  pub last-end : n * words + words ≤ length s
+  last-end = part-end t samples start n s words last facts wide
 
-  pub last-for : RowFor (length samples) (take ((length t - 1) * words + words - (length t - 1) * words) (drop ((length t - 1) * words) s))
-  last-for = part-for t samples start (length t - 1) s words last facts wide
+  pub last-for : RowFor (length samples) (take (n * words + words - n * words) (drop (n * words) s))
+  last-for = part-for t samples start n s words last facts wide
 
-  last-formula : rule t ≡ getD (formulas t) (length t - 1) (const false)
+  last-formula : rule t ≡ getD (formulas t) n (const false)
   unfolding rule formulaOf
   last-formula = ap (formulaOf (formulas t)) same
     where
-      same : length t ≡ suc (length t - 1)
+      same : length t ≡ suc n
       same = omega (arith, some-word)
 
   pub last-row : (driven : ℕ) → driven ≤ 32 → (u : List ℕ) → s ≡ rowsThen (lassoOf samples start driven) (formulas t) u
-      → take ((length t - 1) * words + words - (length t - 1) * words) (drop ((length t - 1) * words) s) ≡ rowOf (lassoOf samples start driven) (rule t)
+      → take (n * words + words - n * words) (drop (n * words) s) ≡ rowOf (lassoOf samples start driven) (rule t)
   unfolding rowsThen
   last-row driven few u e =
       let r : Lasso = lassoOf samples start driven in
-      let n : ℕ = length t - 1 in
       let i : Inside samples start driven = lasso-inside samples start driven (facts .inside) few in
       let wider : words ≡ width r = wide ∙ ap (λ (x : Lasso). width x) (sym (i .2)) in
       let rest : n * words + words - n * words ≡ words = omega arith in
@@ -91,35 +97,39 @@ pub judged-is : (f : Sequence) (L : ℕ) (holds : Bool) (moments failing : ℕ) 
     → JudgedAs holds moments failing ≡ judgement f L
 judged-is f L holds moments failing a b c = cc
 
--- what is read off the rule's row is the reply
-pub accepted-reply : (t samples : List ℕ) (start driven : ℕ) (s part : List ℕ) (tally : Tally) (j : Judged)
-    → judgeOutcome t samples start driven s tally ≡ Accepted
+-- what is read off the rule's row is the reply to an accepted judgement
+pub accepted-answer : (t samples : List ℕ) (start driven : ℕ) (part : List ℕ) (tally : Tally) (j : Judged)
+    → start < length samples → driven ≤ 32 → first (tallyChecks tally) ≡ Accepted
     → part ≡ rowOf (lassoOf samples start driven) (rule t)
     → ((f : Sequence) → part ≡ row (length samples) f → (j .answer ≡ judgement f (length samples)) × (j .tally ≡ tallyAfter tally (f 0)))
-    → j ≡ reply t samples start driven s tally
-unfolding judgeOutcome reply replyBy rowOf
-accepted-reply t samples start driven s part tally j e p read =
-    let checks = judge-both t (length samples) start driven (length s) tally e in
-    let facts = judgeable t (length samples) start driven (length s) (checks .0) in
-    let i : Inside samples start driven = lasso-inside samples start driven (facts .inside) (facts .few-driven) in
+    → j ≡ replyBy Accepted (lassoOf samples start driven) (rule t) tally
+unfolding replyBy rowOf
+accepted-answer t samples start driven part tally j inside few e p read =
+    let i : Inside samples start driven = lasso-inside samples start driven inside few in
     let r : Lasso = record { samples = samples; start = start; driven = driven; inside = i .0; few = i .1 } in
     let f : Sequence = truth r (rule t) in
     let known = read f (subst (λ (x : Lasso). part ≡ rowOf x (rule t)) (i .2) p) in
-    let built : j ≡ replyBy Accepted r (rule t) tally = as-judged (known .0) (known .1 ∙ tally-counted tally (f 0) (checks .1)) in
-    built ∙ ap₂ (λ (o : Outcome) (x : Lasso). replyBy o x (rule t) tally) (sym e) (sym (i .2))
+    let built : j ≡ replyBy Accepted r (rule t) tally = as-judged (known .0) (known .1 ∙ tally-counted tally (f 0) e) in
+    built ∙ ap (λ (x : Lasso). replyBy Accepted x (rule t) tally) (sym (i .2))
   where
     as-judged : {a : Judgement} {c : Tally} → j .answer ≡ a → j .tally ≡ c → j ≡ record { answer = a; tally = c }
     as-judged d h = ap₂ (λ (a : Judgement) (c : Tally). record { answer = a; tally = c }) d h
 
+-- the reply, by what the checks say
+pub accepted-reply : (t samples : List ℕ) (start driven : ℕ) (s : List ℕ) (tally : Tally) → judgeOutcome t samples start driven s tally ≡ Accepted
+    → replyBy Accepted (lassoOf samples start driven) (rule (body t)) tally ≡ reply t samples start driven s tally
+unfolding reply
+accepted-reply t samples start driven s tally e = ap (λ (o : Outcome). replyBy o (lassoOf samples start driven) (rule (body t)) tally) (sym e)
+
 pub refused-reply : (t samples : List ℕ) (start driven : ℕ) (s : List ℕ) (tally : Tally) (why : Refusal)
     → judgeOutcome t samples start driven s tally ≡ Refused why → record { answer = NotJudged why; tally = tally } ≡ reply t samples start driven s tally
 unfolding reply replyBy
-refused-reply t samples start driven s tally why e = ap (λ (o : Outcome). replyBy o (lassoOf samples start driven) (rule t) tally) (sym e)
+refused-reply t samples start driven s tally why e = ap (λ (o : Outcome). replyBy o (lassoOf samples start driven) (rule (body t)) tally) (sym e)
 
 -- ---- the scratch and the part, by what the checks say
 
 pub accepted-scratch : {o : Outcome} (t samples : List ℕ) (start driven : ℕ) (s : List ℕ) → o ≡ Accepted
-    → rowsThen (lassoOf samples start driven) (formulas t) s ≡ scratchAfter o t samples start driven s
+    → rowsThen (lassoOf samples start driven) (formulas (body t)) s ≡ scratchAfter o t samples start driven s
 unfolding scratchAfter
 accepted-scratch t samples start driven s e = ap (λ (o : Outcome). scratchAfter o t samples start driven s) (sym e)
 
@@ -129,7 +139,7 @@ unfolding scratchAfter
 refused-scratch t samples start driven s e = ap (λ (o : Outcome). scratchAfter o t samples start driven s) (sym e)
 
 pub accepted-part : {o : Outcome} (t samples : List ℕ) (start driven : ℕ) → o ≡ Accepted
-    → rowOf (lassoOf samples start driven) (rule t) ≡ lastRow o t samples start driven
+    → rowOf (lassoOf samples start driven) (rule (body t)) ≡ lastRow o t samples start driven
 unfolding lastRow
 accepted-part t samples start driven e = ap (λ (o : Outcome). lastRow o t samples start driven) (sym e)
 
@@ -138,9 +148,9 @@ unfolding lastRow
 refused-part t samples start driven e = ap (λ (o : Outcome). lastRow o t samples start driven) (sym e)
 
 pub accepted-at : {o : Outcome} (t samples : List ℕ) (p : ℕ × ℕ) {words : ℕ} → o ≡ Accepted → words ≡ rowWords (length samples)
-    → _≡_ {A = ℕ × ℕ} (p .0, (length t - 1) * words * 8 + p .1) (partAt o t samples p)
+    → _≡_ {A = ℕ × ℕ} (p .0, (length t - 2) * words * 8 + p .1) (partAt o t samples p)
 unfolding partAt
-accepted-at t samples p e wide = ap (λ (x : ℕ). (p .0, (length t - 1) * x * 8 + p .1)) wide ∙ ap (λ (o : Outcome). partAt o t samples p) (sym e)
+accepted-at t samples p e wide = ap₂ (λ (n x : ℕ). (p .0, n * x * 8 + p .1)) (words-before t) wide ∙ ap (λ (o : Outcome). partAt o t samples p) (sym e)
 
 pub refused-at : {o : Outcome} {why : Refusal} (t samples : List ℕ) (p : ℕ × ℕ) → o ≡ Refused why → _≡_ {A = ℕ × ℕ} (p .0, 0 * 8 + p .1) (partAt o t samples p)
 unfolding partAt

@@ -1,4 +1,4 @@
--- What a judgement answers, and what it leaves in the scratch: accepted or refused, the whole of both.
+-- What a judgement answers, and what it leaves in the scratch: accepted or refused, the whole of both. A table is handed over with its header.
 use Prim.Native.Nat.{ℕ, _+_, _-_, _*_}
 use mathlib.Core.List.{List, []}
 use lib.ListN.{length}
@@ -10,6 +10,7 @@ use Rattle.refusals.specs.declared.Outcome.{Outcome}
 use Rattle.refusals.specs.declared.Outcome.the-variants.{Accepted, Refused}
 use Rattle.refusals.specs.Refusals.{first}
 use Rattle.table.specs.Table.{formulas, rule}
+use Rattle.table.specs.Header.{body}
 use Rattle.tally.specs.declared.Tally.{Tally}
 use Rattle.evaluation.specs.declared.answer.Judgement.{Judgement}
 use Rattle.evaluation.specs.declared.answer.Judgement.the-variants.{Judged as JudgedAs, Refused as NotJudged}
@@ -30,17 +31,17 @@ replyBy (Refused why) r φ tally = record { answer = NotJudged why; tally = tall
 
 -- the scratch afterwards, by what the checks say; a refusal leaves it as it was
 unfoldable pub scratchAfter : Outcome → List ℕ → List ℕ → ℕ → ℕ → List ℕ → List ℕ
-scratchAfter Accepted t samples start driven scratch = rowsThen (lassoOf samples start driven) (formulas t) scratch
+scratchAfter Accepted t samples start driven scratch = rowsThen (lassoOf samples start driven) (formulas (body t)) scratch
 scratchAfter (Refused why) t samples start driven scratch = scratch
 
 -- the part that the row call hands back, the last word's row, and its number and place
 unfoldable pub lastRow : Outcome → List ℕ → List ℕ → ℕ → ℕ → List ℕ
-lastRow Accepted t samples start driven = rowOf (lassoOf samples start driven) (rule t)
+lastRow Accepted t samples start driven = rowOf (lassoOf samples start driven) (rule (body t))
 lastRow (Refused why) t samples start driven = []
 
 -- where that part lies, by the block and offset of the scratch: past the rows of the words before the last one, 8 bytes a word
 unfoldable pub partAt : Outcome → List ℕ → List ℕ → ℕ × ℕ → ℕ × ℕ
-partAt Accepted t samples scratch = (scratch .0, (length t - 1) * rowWords (length samples) * 8 + scratch .1)
+partAt Accepted t samples scratch = (scratch .0, (length (body t) - 1) * rowWords (length samples) * 8 + scratch .1)
 partAt (Refused why) t samples scratch = scratch
 
 -- what the checks of the two calls say
@@ -52,4 +53,4 @@ judgeOutcome t samples start driven scratch tally = first (judgeChecks t (length
 
 -- the judge's whole reply
 unfoldable pub reply : List ℕ → List ℕ → ℕ → ℕ → List ℕ → Tally → Judged
-reply t samples start driven scratch tally = replyBy (judgeOutcome t samples start driven scratch tally) (lassoOf samples start driven) (rule t) tally
+reply t samples start driven scratch tally = replyBy (judgeOutcome t samples start driven scratch tally) (lassoOf samples start driven) (rule (body t)) tally

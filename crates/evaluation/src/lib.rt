@@ -7,10 +7,11 @@ ghost use Rattle.row_words.specs.Writing.{RowFor};
 ghost use Rattle.row_words.specs.Row as rows;
 ghost use Rattle.logic.specs.Truth.{Sequence};
 ghost use Rattle.refusals.specs.declared.Outcome.the-variants.{Accepted};
-ghost use Rattle.table.specs.Table.{formulas};
+ghost use Rattle.table.specs.Table.{formulas, rule};
 ghost use Rattle.row_filling.specs.Filling.{Fillable, lassoOf, rowsThen};
-ghost use Rattle.evaluation.specs.Judging.{rowOutcome, judgeOutcome, judgement, reply, scratchAfter, lastRow, partAt};
-ghost use Rattle.refusals.specs.Refusals.{outcomeNumber, outcomePlace};
+ghost use Rattle.evaluation.specs.Judging.{rowOutcome, judgeOutcome, judgement, replyBy, reply, scratchAfter, lastRow, partAt};
+ghost use Rattle.judge_checks.specs.Checks.{tallyChecks};
+ghost use Rattle.refusals.specs.Refusals.{first, outcomeNumber, outcomePlace};
 ghost use Rattle.tally.specs.Tallies.{tallyAfter};
 use crate::answer::Judged;
 use crate::answer::Judgement;
@@ -44,7 +45,7 @@ fn read_answer(row: &[u64], positions: usize, tally: Tally) -> Judged
     }
 }
 
-// A judgement that the checks accept, for whatever driven count they do.
+// A judgement that the checks accept, of the words after the table's header, for whatever driven count they do.
 fn judge_accepted(
     table: &[u32],
     samples: &[u32],
@@ -53,8 +54,8 @@ fn judge_accepted(
     tally: Tally,
 ) -> Judged
     requires { ⌜ Fillable (now table) (now samples) start (now scratch) ⌝ }
-    ensures { λ r. ⌜ ((driven : ℕ) → judgeOutcome (now (table .entry)) (now (samples .entry)) start driven (now (scratch .entry)) tally ≡ Accepted
-        → r ≡ reply (now (table .entry)) (now (samples .entry)) start driven (now (scratch .entry)) tally) ⌝ }
+    ensures { λ r. ⌜ ((driven : ℕ) → driven ≤ 32 → first (tallyChecks tally) ≡ Accepted
+        → r ≡ replyBy Accepted (lassoOf (now (samples .entry)) start driven) (rule (now (table .entry))) tally) ⌝ }
     ensures { λ _. ⌜ ((driven : ℕ) → driven ≤ 32
         → now (scratch .exit) ≡ rowsThen (lassoOf (now (samples .entry)) start driven) (formulas (now (table .entry))) (now (scratch .entry))) ⌝ }
 {
@@ -65,6 +66,7 @@ fn judge_accepted(
     read_answer(&scratch[from..to], samples.len(), tally)
 }
 
+// The judge, over a table with its header.
 pub fn judge(
     table: &[u32],
     samples: &[u32],
@@ -81,11 +83,11 @@ pub fn judge(
             let answer = Judgement::Refused(why);
             Judged { answer, tally }
         }
-        Outcome::Accepted => judge_accepted(table, samples, start, scratch, tally),
+        Outcome::Accepted => judge_accepted(&table[1..], samples, start, scratch, tally),
     }
 }
 
-// The rows alone, with no tally.
+// The rows of the words alone, with no tally.
 pub fn fill(
     table: &[u32],
     samples: &[u32],
@@ -99,13 +101,13 @@ pub fn fill(
     match check_row(table, samples.len(), start, driven, scratch.len()) {
         Outcome::Refused(why) => Outcome::Refused(why),
         Outcome::Accepted => {
-            fill_rows(table, samples, start, scratch);
+            fill_rows(&table[1..], samples, start, scratch);
             Outcome::Accepted
         }
     }
 }
 
-// The row call: the rule's row, where it lies in the scratch, or an empty part with the refusal's number and place.
+// The row call: the rule's row, the one of the table's last word, where it lies in the scratch, or an empty part with the refusal's number and place.
 // Of a slice that goes to the caller in part a contract says nothing at exit: what becomes of the whole scratch is said by `fill`.
 pub fn row<'a>(
     table: &[u32],
@@ -132,7 +134,7 @@ pub fn row<'a>(
             *number = 0;
             *place = 0;
             let words = row_words(samples.len());
-            let from = (table.len() - 1) * words;
+            let from = (table.len() - 2) * words;
             let to = from + words;
             &mut scratch[from..to]
         }

@@ -1,8 +1,9 @@
 -- Replies in lent numbers, and the scratch, speak of the reply and the outcome that the contracts name.
 use Prim.Native.Nat.{ℕ, _-_, _*_}
-use mathlib.Core.Path.{_≡_, refl, sym, ap, subst, _∙_}
+use mathlib.Core.Path.{_≡_, refl, sym, ap, ap₂, subst, _∙_}
 use mathlib.Core.Bool.{Bool}
 use mathlib.Core.List.{List}
+use lib.ListN.{length}
 use Rattle.refusals.specs.declared.Outcome.{Outcome}
 use Rattle.refusals.specs.declared.Outcome.the-variants.{Accepted, Refused}
 use Rattle.refusals.specs.declared.Refusal.{Refusal}
@@ -10,6 +11,8 @@ use Rattle.refusals.specs.Refusals.{numberOf, placeOf, outcomeNumber, outcomePl
 use Rattle.row_words.specs.Row.{rowWords}
 use Rattle.evaluation.specs.declared.answer.Judged.{Judged}
 use Rattle.evaluation.specs.Judging.{scratchAfter}
+use Rattle.evaluation.proofs.LastRow.{words-before}
+use Rattle.table.specs.Header.{body}
 use Rattle.judge_laws.specs.Answers.{said}
 use Rattle.replies.specs.Replies.{JudgeReply, RowReply, rowFrom, rowLength}
 
@@ -29,13 +32,13 @@ judge-replied {j} {number = number} {moments = moments} {failing = failing} {pla
       is-place = r .1 .1 .1 .1;
     })
 
-pub row-accepted : {o : Outcome} {table samples width : ℕ} → o ≡ Accepted → width ≡ rowWords samples
-    → RowReply o table samples 0 ((table - 1) * width) width 0
-row-accepted {table = table} {samples = samples} e wide =
+pub row-accepted : {o : Outcome} (table : List ℕ) {samples width : ℕ} → o ≡ Accepted → width ≡ rowWords samples
+    → RowReply o (length (body table)) samples 0 ((length table - 2) * width) width 0
+row-accepted table {samples = samples} e wide =
     let back = sym e in
     record {
       is-number = ap outcomeNumber back;
-      is-from = ap (λ (w : ℕ). (table - 1) * w) wide ∙ ap (λ (o : Outcome). rowFrom o table samples) back;
+      is-from = ap₂ (λ (n w : ℕ). n * w) (words-before table) wide ∙ ap (λ (o : Outcome). rowFrom o (length (body table)) samples) back;
       is-words = wide ∙ ap (λ (o : Outcome). rowLength o samples) back;
       is-place = ap outcomePlace back;
     }

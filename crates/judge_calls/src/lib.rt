@@ -2,6 +2,7 @@
 // place and what it says.
 ghost use mathlib.Core.Path.{_≡_};
 ghost use lib.ListN.{length};
+ghost use Rattle.table.specs.Header.{body};
 ghost use Rattle.evaluation.specs.Judging.{judgeOutcome, rowOutcome, scratchAfter};
 ghost use Rattle.evaluation.specs.Judging.{reply as judgeReply};
 ghost use Rattle.replies.specs.Replies.{JudgeReply, RowReply};
@@ -56,7 +57,7 @@ pub fn row(
     place: &mut usize,
 ) -> u32
     ensures { λ r. ⌜ RowReply
-        (rowOutcome (now (table .entry)) (now (samples .entry)) start driven (now (scratch .entry))) (length (now (table .entry))) (length (now (samples .entry)))
+        (rowOutcome (now (table .entry)) (now (samples .entry)) start driven (now (scratch .entry))) (length (body (now (table .entry)))) (length (now (samples .entry)))
         r (now (from .exit)) (now (words .exit)) (now (place .exit)) ⌝ }
     ensures { λ r. ⌜ now (scratch .exit) ≡ scratchAfter
         (rowOutcome (now (table .entry)) (now (samples .entry)) start driven (now (scratch .entry)))
@@ -72,7 +73,7 @@ pub fn row(
         }
         Outcome::Accepted => {
             let width = row_words(samples.len());
-            *from = (table.len() - 1) * width;
+            *from = (table.len() - 2) * width;
             *words = width;
             *place = 0;
             0

@@ -9,72 +9,77 @@ use borrow.Author.Tests.{ltb-false, leb-false, eqb-false, ne-eqb, le-ltb, lt-leb
 use Rattle.refusals.specs.declared.Refusal.{Refusal}
 use Rattle.refusals.specs.declared.Outcome.the-variants.{Accepted, Refused}
 use Rattle.refusals.specs.Refusals.{Check, first}
-use Rattle.table.specs.Checks.{tableChecks, checked}
+use Rattle.table.specs.Checks.{checked}
+use Rattle.table.specs.Header.{headed, body, headedChecks, headedChecked}
 use Rattle.table.specs.StepChecks.{drivenChecks, letterChecks}
+use Rattle.table.proofs.Header.{accepted-headed, headed-accepted}
 use Rattle.row_words.specs.Row.{rowWords}
 use Rattle.judge_checks.specs.Checks.{recordingChecks, scratchChecks, tallyChecks, rowChecks, judgeChecks}
 use Rattle.tally.specs.declared.Tally.{Tally}
 use Rattle.refusals.proofs.First.{Passed, first-passed, passed-first, first-append-accepted, first-append-refused, first-append-both}
 
--- a table, a recording and a scratch that the row call accepts
+-- a table with its header, a recording and a scratch that the row call accepts
 pub record Judgeable (t : List ℕ) (samples start driven scratch : ℕ) : Type 0 where
-  pub accepted : checked false 16383 t ≡ Accepted
+  pub accepted : checked false 16383 (body t) ≡ Accepted
+  pub whole : t ≡ headed (body t)
   pub some : 1 ≤ samples
   pub few : samples ≤ 4096
   pub inside : start < samples
   pub few-driven : driven ≤ 32
-  pub letters : first (letterChecks driven 1 t) ≡ Accepted
-  pub room : length t * rowWords samples ≤ scratch
+  pub letters : first (letterChecks driven 1 (body t)) ≡ Accepted
+  pub room : length (body t) * rowWords samples ≤ scratch
 
 module _ (t : List ℕ) (samples start driven scratch : ℕ) where
   -- 21 and 16, and what comes before them
   named : List Check
-  named = letterChecks driven 1 t ++ scratchChecks (length t) samples scratch
+  named = letterChecks driven 1 (body t) ++ scratchChecks (length (body t)) samples scratch
 
   memory : List Check
   memory = recordingChecks samples start driven ++ named
 
-  pub row-refused : (why : Refusal) → checked false 16383 t ≡ Refused why → first (rowChecks t samples start driven scratch) ≡ Refused why
-  unfolding checked rowChecks memory named
-  row-refused why e = first-append-refused (tableChecks false 16383 t) memory why e
+  pub row-refused : (why : Refusal) → headedChecked false 16383 t ≡ Refused why → first (rowChecks t samples start driven scratch) ≡ Refused why
+  unfolding headedChecked rowChecks memory named
+  row-refused why e = first-append-refused (headedChecks false 16383 t) memory why e
 
-  pub row-accepted : checked false 16383 t ≡ Accepted
+  pub row-accepted : headedChecked false 16383 t ≡ Accepted
       → first (rowChecks t samples start driven scratch)
-      ≡ first (recordingChecks samples start driven ++ (letterChecks driven 1 t ++ scratchChecks (length t) samples scratch))
-  unfolding checked rowChecks memory named
-  row-accepted e = first-append-accepted (tableChecks false 16383 t) memory e
+      ≡ first (recordingChecks samples start driven ++ (letterChecks driven 1 (body t) ++ scratchChecks (length (body t)) samples scratch))
+  unfolding headedChecked rowChecks memory named
+  row-accepted e = first-append-accepted (headedChecks false 16383 t) memory e
 
   pub judgeable : first (rowChecks t samples start driven scratch) ≡ Accepted → Judgeable t samples start driven scratch
-  unfolding checked rowChecks memory named recordingChecks drivenChecks scratchChecks
+  unfolding headedChecked rowChecks memory named recordingChecks drivenChecks scratchChecks
   judgeable e =
-      let ts = first-append-both (tableChecks false 16383 t) memory .0 e in
+      let ts = first-append-both (headedChecks false 16383 t) memory .0 e in
       let ms = first-append-both (recordingChecks samples start driven) named .0 (ts .1) in
-      let ns = first-append-both (letterChecks driven 1 t) (scratchChecks (length t) samples scratch) .0 (ms .1) in
+      let ns = first-append-both (letterChecks driven 1 (body t)) (scratchChecks (length (body t)) samples scratch) .0 (ms .1) in
       let p : Passed (recordingChecks samples start driven) = first-passed (recordingChecks samples start driven) (ms .0) in
+      let table = accepted-headed false 16383 t (ts .0) in
       record {
-        accepted = ts .0;
+        accepted = table .words;
+        whole = table .whole;
         some = omega (arith, eqb-false samples 0 (p .0));
         few = ltb-false 4096 samples (p .1 .0);
         inside = leb-false samples start (p .1 .1 .0);
         few-driven = ltb-false 32 driven (p .1 .1 .1 .0);
         letters = ns .0;
-        room = ltb-false scratch (length t * rowWords samples) (first-passed (scratchChecks (length t) samples scratch) (ns .1) .0);
+        room = ltb-false scratch (length (body t) * rowWords samples) (first-passed (scratchChecks (length (body t)) samples scratch) (ns .1) .0);
       }
 
   -- and what is so is accepted
   pub judgeable-accepted : Judgeable t samples start driven scratch → first (rowChecks t samples start driven scratch) ≡ Accepted
-  unfolding checked rowChecks memory named recordingChecks drivenChecks scratchChecks
+  unfolding headedChecked rowChecks memory named recordingChecks drivenChecks scratchChecks
   judgeable-accepted f =
-      first-append-both (tableChecks false 16383 t) memory .1 (
-        f .accepted,
+      first-append-both (headedChecks false 16383 t) memory .1 (
+        rw (f .whole) (headed-accepted false 16383 (body t) (omega arith) (f .accepted)),
         first-append-both (recordingChecks samples start driven) named .1 (
           passed-first (recordingChecks samples start driven) (
             ne-eqb samples 0 (λ e. omega (arith, f .some)),
             (le-ltb 4096 samples (f .few), (lt-leb samples start (f .inside), (le-ltb 32 driven (f .few-driven), tt))),
           ),
-          first-append-both (letterChecks driven 1 t) (scratchChecks (length t) samples scratch) .1 (
+          first-append-both (letterChecks driven 1 (body t)) (scratchChecks (length (body t)) samples scratch) .1 (
             f .letters,
-            passed-first (scratchChecks (length t) samples scratch) (le-ltb scratch (length t * rowWords samples) (f .room), tt),
+            passed-first (scratchChecks (length (body t)) samples scratch) (le-ltb scratch (length (body t) * rowWords samples) (f .room), tt),
           ),
         ),
       )

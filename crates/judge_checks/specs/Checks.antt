@@ -7,7 +7,7 @@ use lib.Dec.{ltb, leb, eqb}
 use Rattle.row_words.specs.Row.{rowWords}
 use Rattle.refusals.specs.declared.Refusal.the-variants.{NoSample, TooManySamples, LoopStartOutside, ScratchTooShort, TallyFull}
 use Rattle.refusals.specs.Refusals.{Check, _⇒_}
-use Rattle.table.specs.Checks.{tableChecks}
+use Rattle.table.specs.Header.{body, headedChecks}
 use Rattle.table.specs.StepChecks.{drivenChecks, letterChecks}
 use Rattle.tally.specs.declared.Tally.{Tally}
 use Rattle.tally.specs.Tallies.{isFull}
@@ -28,13 +28,13 @@ scratchChecks words samples scratch = (ltb scratch (words * rowWords samples) �
 unfoldable pub tallyChecks : Tally → List Check
 tallyChecks tally = (isFull tally ⇒ TallyFull) ∷ []
 
--- the row call
+-- the row call, of a table with its header; the letters and the rows are those of its words
 unfoldable pub rowChecks : List ℕ → ℕ → ℕ → ℕ → ℕ → List Check
 rowChecks t samples start driven scratch =
-    tableChecks false 16383 t
+    headedChecks false 16383 t
     ++ (recordingChecks samples start driven
-    ++ (letterChecks driven 1 t
-    ++ scratchChecks (length t) samples scratch))
+    ++ (letterChecks driven 1 (body t)
+    ++ scratchChecks (length (body t)) samples scratch))
 
 unfoldable pub judgeChecks : List ℕ → ℕ → ℕ → ℕ → ℕ → Tally → List Check
 judgeChecks t samples start driven scratch tally = rowChecks t samples start driven scratch ++ tallyChecks tally

@@ -61,7 +61,7 @@ pub fn check_words(table: &[u32], samples: usize, driven: usize, scratch: usize)
     }
 }
 
-// 13 to 15, 22, 21 and 16, of a table that passes 1 to 10.
+// 13 to 15, 22, 21 and 16, of the words of a table that passes the checks before them.
 pub fn check_memory(
     table: &[u32],
     samples: usize,
@@ -89,7 +89,7 @@ pub fn check_tally(tally: Tally) -> Outcome
     Outcome::Accepted
 }
 
-// The row call's.
+// The row call's, of a table with its header.
 pub fn check_row(
     table: &[u32],
     samples: usize,
@@ -99,13 +99,13 @@ pub fn check_row(
 ) -> Outcome
     ensures { λ r. ⌜ r ≡ first (rowChecks (now (table .entry)) samples start driven scratch) ⌝ }
 {
-    match reading::check(table, false, 16383) {
+    match heading::check(table, false, 16383) {
         Outcome::Refused(why) => Outcome::Refused(why),
-        Outcome::Accepted => check_memory(table, samples, start, driven, scratch),
+        Outcome::Accepted => check_memory(&table[1..], samples, start, driven, scratch),
     }
 }
 
-// The judge's.
+// The judge's, likewise.
 pub fn check_judge(
     table: &[u32],
     samples: usize,

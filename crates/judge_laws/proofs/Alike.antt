@@ -16,6 +16,7 @@ use Rattle.row_words.specs.Row.{row, rowWords}
 use Rattle.refusals.specs.declared.Outcome.{Outcome}
 use Rattle.refusals.specs.declared.Outcome.the-variants.{Accepted, Refused}
 use Rattle.table.specs.Table.{formulas, rule}
+use Rattle.table.specs.Header.{body}
 use Rattle.table.proofs.Formulas.{length-formulas}
 use Rattle.tally.specs.declared.Tally.{Tally}
 use Rattle.evaluation.specs.declared.answer.Judged.{Judged}
@@ -101,11 +102,11 @@ module _ (t samples samples′ : List ℕ) (start driven : ℕ) (scratch : List 
           ∙ sym (ap (λ (v : ℕ). letterIn v n) (accepted-word t samples′ start driven scratch accepted′ k));
     }
 
-    formulas-drive : (j : ℕ) → j < length (formulas t) → Drives r (getD (formulas t) j (const false))
+    formulas-drive : (j : ℕ) → j < length (formulas (body t)) → Drives r (getD (formulas (body t)) j (const false))
     unfolding r
-    formulas-drive j h = accepted-drives t samples start driven scratch accepted j (omega (arith, length-formulas t))
+    formulas-drive j h = accepted-drives t samples start driven scratch accepted j (omega (arith, length-formulas (body t)))
 
-    rule-drive : Drives r (rule t)
+    rule-drive : Drives r (rule (body t))
     unfolding r
     rule-drive = rule-drives t samples start driven scratch accepted
 
@@ -113,22 +114,22 @@ module _ (t samples samples′ : List ℕ) (start driven : ℕ) (scratch : List 
   scratch-by : (o : Outcome) → (o ≡ Accepted → rowOutcome t samples start driven scratch ≡ Accepted)
       → scratchAfter o t samples start driven scratch ≡ scratchAfter o t samples′ start driven scratch
   unfolding scratchAfter r r′
-  scratch-by Accepted a = let e = a refl in rows-then-alike (agree e) (size e) (formulas t) scratch (formulas-drive e)
+  scratch-by Accepted a = let e = a refl in rows-then-alike (agree e) (size e) (formulas (body t)) scratch (formulas-drive e)
   scratch-by (Refused why) a = refl
 
   part-by : (o : Outcome) → (o ≡ Accepted → rowOutcome t samples start driven scratch ≡ Accepted) → lastRow o t samples start driven ≡ lastRow o t samples′ start driven
   unfolding lastRow r r′
-  part-by Accepted a = let e = a refl in row-alike (agree e) (size e) (rule t) (rule-drive e)
+  part-by Accepted a = let e = a refl in row-alike (agree e) (size e) (rule (body t)) (rule-drive e)
   part-by (Refused why) a = refl
 
   at-by : (o : Outcome) (p : ℕ × ℕ) → partAt o t samples p ≡ partAt o t samples′ p
   unfolding partAt
-  at-by Accepted p = ap (λ (n : ℕ). (p .0, (length t - 1) * rowWords n * 8 + p .1)) (alike .long)
+  at-by Accepted p = ap (λ (n : ℕ). (p .0, (length (body t) - 1) * rowWords n * 8 + p .1)) (alike .long)
   at-by (Refused why) p = refl
 
-  reply-by : (o : Outcome) (tally : Tally) → (o ≡ Accepted → rowOutcome t samples start driven scratch ≡ Accepted) → replyBy o r (rule t) tally ≡ replyBy o r′ (rule t) tally
+  reply-by : (o : Outcome) (tally : Tally) → (o ≡ Accepted → rowOutcome t samples start driven scratch ≡ Accepted) → replyBy o r (rule (body t)) tally ≡ replyBy o r′ (rule (body t)) tally
   unfolding replyBy
-  reply-by Accepted tally a = let e = a refl in reply-alike (agree e) (size e) (rule t) tally (rule-drive e)
+  reply-by Accepted tally a = let e = a refl in reply-alike (agree e) (size e) (rule (body t)) tally (rule-drive e)
   reply-by (Refused why) tally a = refl
 
   -- the row call: its outcome, the scratch, the part that is handed back and where it lies
@@ -154,6 +155,6 @@ module _ (t samples samples′ : List ℕ) (start driven : ℕ) (scratch : List 
   judged-alike tally =
       let accepts = judge-rows t samples start driven scratch tally in (
         judge-outcome tally,
-        reply-by (judgeOutcome t samples start driven scratch tally) tally accepts ∙ ap (λ (o : Outcome). replyBy o r′ (rule t) tally) (judge-outcome tally),
+        reply-by (judgeOutcome t samples start driven scratch tally) tally accepts ∙ ap (λ (o : Outcome). replyBy o r′ (rule (body t)) tally) (judge-outcome tally),
         scratch-by (judgeOutcome t samples start driven scratch tally) accepts ∙ ap (λ (o : Outcome). scratchAfter o t samples′ start driven scratch) (judge-outcome tally),
       )

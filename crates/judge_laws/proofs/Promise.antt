@@ -1,5 +1,6 @@
 -- Demand 2: in every accepted call, for every word and every position, those of the endless repeat included, the bit of the
--- word's row at the position's place is 1 if and only if the word's formula holds there by the definition over all later positions.
+-- word's row at the position's place is 1 if and only if the word's formula holds there by the definition over all later positions. A table is
+-- handed over with its header, and its words are those after it.
 use Prim.Native.Nat.{ℕ, zero, suc, _+_, _-_, _*_, _/_, _%_, _^_, _≤_, _<_}
 use native.Mathlib.Nat.{add-zero, zero-add, eq-or-lt-of-le}
 use native.Mathlib.Numerals.{add-one}
@@ -26,6 +27,7 @@ use Rattle.refusals.specs.declared.Outcome.{Outcome}
 use Rattle.refusals.specs.declared.Outcome.the-variants.{Accepted, Refused}
 use Rattle.refusals.specs.Refusals.{outcomeNumber, outcomePlace}
 use Rattle.table.specs.Table.{formulaOf, formulas, rule}
+use Rattle.table.specs.Header.{body}
 use Rattle.table.proofs.Formulas.{length-formulas}
 use Rattle.table.proofs.Accepted.{accepted-well-formed}
 use Rattle.table.proofs.Letters.{formulas-driven}
@@ -80,47 +82,47 @@ module _ (t samples : List ℕ) (start driven : ℕ) (scratch : List ℕ) (accep
   accepted-word i = ap (λ (r : Lasso). word r i) (inside .2)
 
   -- it drives every letter of every word's formula
-  pub accepted-drives : (j : ℕ) → j < length t → Drives (lassoOf samples start driven) (getD (formulas t) j (const false))
+  pub accepted-drives : (j : ℕ) → j < length (body t) → Drives (lassoOf samples start driven) (getD (formulas (body t)) j (const false))
   unfolding formulaOf
   accepted-drives j h =
-      subst (λ (r : Lasso). Drives r (getD (formulas t) j (const false))) (sym (inside .2))
-      (formulas-driven (accepted-well-formed false 16383 t (facts .accepted)) driven (facts .letters) (suc j) h)
+      subst (λ (r : Lasso). Drives r (getD (formulas (body t)) j (const false))) (sym (inside .2))
+      (formulas-driven (accepted-well-formed false 16383 (body t) (facts .accepted)) driven (facts .letters) (suc j) h)
 
-  pub rule-drives : Drives (lassoOf samples start driven) (rule t)
+  pub rule-drives : Drives (lassoOf samples start driven) (rule (body t))
   unfolding rule
   rule-drives =
-      subst (λ (r : Lasso). Drives r (rule t)) (sym (inside .2))
-      (formulas-driven (accepted-well-formed false 16383 t (facts .accepted)) driven (facts .letters) (length t) (omega arith))
+      subst (λ (r : Lasso). Drives r (rule (body t))) (sym (inside .2))
+      (formulas-driven (accepted-well-formed false 16383 (body t) (facts .accepted)) driven (facts .letters) (length (body t)) (omega arith))
 
   -- row j of the scratch afterwards
-  pub row-of-word : (j : ℕ) → j < length t
-      → rowNumber (rowWords (length samples)) j (rowsThen (lassoOf samples start driven) (formulas t) scratch)
-      ≡ rowOf (lassoOf samples start driven) (getD (formulas t) j (const false))
+  pub row-of-word : (j : ℕ) → j < length (body t)
+      → rowNumber (rowWords (length samples)) j (rowsThen (lassoOf samples start driven) (formulas (body t)) scratch)
+      ≡ rowOf (lassoOf samples start driven) (getD (formulas (body t)) j (const false))
   unfolding rowsThen
   row-of-word j h =
-      ap (λ (r : Lasso). rowNumber (width r) j (rowsThen (lassoOf samples start driven) (formulas t) scratch)) (sym (inside .2))
-      ∙ row-part (lassoOf samples start driven) (formulas t) j _ (omega (arith, length-formulas t))
+      ap (λ (r : Lasso). rowNumber (width r) j (rowsThen (lassoOf samples start driven) (formulas (body t)) scratch)) (sym (inside .2))
+      ∙ row-part (lassoOf samples start driven) (formulas (body t)) j _ (omega (arith, length-formulas (body t)))
 
-  bit-of-word : (j : ℕ) → j < length t → (i : ℕ)
-      → holdsIn (rowNumber (rowWords (length samples)) j (rowsThen (lassoOf samples start driven) (formulas t) scratch)) (place (length samples) start i)
-      ≡ truth (lassoOf samples start driven) (getD (formulas t) j (const false)) i
+  bit-of-word : (j : ℕ) → j < length (body t) → (i : ℕ)
+      → holdsIn (rowNumber (rowWords (length samples)) j (rowsThen (lassoOf samples start driven) (formulas (body t)) scratch)) (place (length samples) start i)
+      ≡ truth (lassoOf samples start driven) (getD (formulas (body t)) j (const false)) i
   bit-of-word j h i =
       ap (λ (x : List ℕ). holdsIn x (place (length samples) start i)) (row-of-word j h)
       ∙ ap (λ (r : Lasso). holdsIn (rowOf (lassoOf samples start driven) φ) (place (length (r .samples)) (r .start) i)) (sym (inside .2))
       ∙ place-bit (lassoOf samples start driven) φ i
     where
       φ : Formula
-      φ = getD (formulas t) j (const false)
+      φ = getD (formulas (body t)) j (const false)
 
   Promise : List ℕ → Type 0
-  Promise after = (j : ℕ) → j < length t → (i : ℕ)
+  Promise after = (j : ℕ) → j < length (body t) → (i : ℕ)
       → T (holdsIn (rowNumber (rowWords (length samples)) j after) (place (length samples) start i))
-      ↔ Holds (word (lassoOf samples start driven)) (getD (formulas t) j (const false)) i
+      ↔ Holds (word (lassoOf samples start driven)) (getD (formulas (body t)) j (const false)) i
 
-  promised : (after : List ℕ) → rowsThen (lassoOf samples start driven) (formulas t) scratch ≡ after → Promise after
+  promised : (after : List ℕ) → rowsThen (lassoOf samples start driven) (formulas (body t)) scratch ≡ after → Promise after
   unfolding Promise
   promised after e j h i =
-      let φ : Formula = getD (formulas t) j (const false) in
+      let φ : Formula = getD (formulas (body t)) j (const false) in
       let same : holdsIn (rowNumber (rowWords (length samples)) j after) (place (length samples) start i) ≡ truth (lassoOf samples start driven) φ i =
       ap (λ (x : List ℕ). holdsIn (rowNumber (rowWords (length samples)) j x) (place (length samples) start i)) (sym e) ∙ bit-of-word j h i
       in
@@ -128,17 +130,17 @@ module _ (t samples : List ℕ) (start driven : ℕ) (scratch : List ℕ) (accep
 
 -- the row call
 pub row-promise : (t samples : List ℕ) (start driven : ℕ) (scratch : List ℕ) → rowOutcome t samples start driven scratch ≡ Accepted
-    → (j : ℕ) → j < length t → (i : ℕ)
+    → (j : ℕ) → j < length (body t) → (i : ℕ)
     → T (holdsIn (rowNumber (rowWords (length samples)) j (scratchAfter (rowOutcome t samples start driven scratch) t samples start driven scratch)) (place (length samples) start i))
-    ↔ Holds (word (lassoOf samples start driven)) (getD (formulas t) j (const false)) i
+    ↔ Holds (word (lassoOf samples start driven)) (getD (formulas (body t)) j (const false)) i
 unfolding Promise
 row-promise t samples start driven scratch e = promised t samples start driven scratch e _ (accepted-scratch t samples start driven scratch e)
 
 -- the judge
 pub judge-promise : (t samples : List ℕ) (start driven : ℕ) (scratch : List ℕ) (tally : Tally) → judgeOutcome t samples start driven scratch tally ≡ Accepted
-    → (j : ℕ) → j < length t → (i : ℕ)
+    → (j : ℕ) → j < length (body t) → (i : ℕ)
     → T (holdsIn (rowNumber (rowWords (length samples)) j (scratchAfter (judgeOutcome t samples start driven scratch tally) t samples start driven scratch)) (place (length samples) start i))
-    ↔ Holds (word (lassoOf samples start driven)) (getD (formulas t) j (const false)) i
+    ↔ Holds (word (lassoOf samples start driven)) (getD (formulas (body t)) j (const false)) i
 unfolding Promise
 judge-promise t samples start driven scratch tally e =
     promised t samples start driven scratch (judge-rows t samples start driven scratch tally e) _ (accepted-scratch t samples start driven scratch e)
@@ -187,25 +189,25 @@ pub said-outcome : (t samples : List ℕ) (start driven : ℕ) (scratch : List �
 unfolding reply replyBy
 said-outcome t samples start driven scratch tally = by (judgeOutcome t samples start driven scratch tally)
   where
-    by : (o : Outcome) → (said (replyBy o (lassoOf samples start driven) (rule t) tally .answer) .number ≡ outcomeNumber o)
-        × (said (replyBy o (lassoOf samples start driven) (rule t) tally .answer) .place ≡ outcomePlace o)
+    by : (o : Outcome) → (said (replyBy o (lassoOf samples start driven) (rule (body t)) tally .answer) .number ≡ outcomeNumber o)
+        × (said (replyBy o (lassoOf samples start driven) (rule (body t)) tally .answer) .place ≡ outcomePlace o)
     by Accepted = (refl, refl)
     by (Refused why) = (refl, refl)
 
 -- an accepted judgement, by the meaning of the rule
 pub accepted-judgement : (t samples : List ℕ) (start driven : ℕ) (scratch : List ℕ) (tally : Tally) → judgeOutcome t samples start driven scratch tally ≡ Accepted
-    → Judges (Holds (word (lassoOf samples start driven)) (rule t)) (length samples) (said (reply t samples start driven scratch tally .answer))
+    → Judges (Holds (word (lassoOf samples start driven)) (rule (body t))) (length samples) (said (reply t samples start driven scratch tally .answer))
     (lastRow (rowOutcome t samples start driven scratch) t samples start driven)
 unfolding reply lastRow replyBy rowOf
 accepted-judgement t samples start driven scratch tally e =
     let r : Lasso = lassoOf samples start driven in
     let rows = judge-rows t samples start driven scratch tally e in
     let size : length (r .samples) ≡ length samples = ap (λ (x : Lasso). length (x .samples)) (inside t samples start driven scratch rows .2) in
-    let first = first-fails (truth r (rule t)) (Holds (word r) (rule t)) (truth-holds r (rule t)) 0 (length (r .samples)) in
+    let first = first-fails (truth r (rule (body t))) (Holds (word r) (rule (body t))) (truth-holds r (rule (body t))) 0 (length (r .samples)) in
     rw (e, rows, ← size) (record {
       accepted = (refl, refl);
-      held = truth-holds r (rule t) 0;
-      counted = count-holds (truth r (rule t)) (Holds (word r) (rule t)) (truth-holds r (rule t)) (length (r .samples));
+      held = truth-holds r (rule (body t)) 0;
+      counted = count-holds (truth r (rule (body t))) (Holds (word r) (rule (body t))) (truth-holds r (rule (body t))) (length (r .samples));
       first = record { before = λ i l. first .0 i (omega arith) l; there = rw zero-add at (first .1) };
-      bits = λ i l. says (row-bit (length (r .samples)) (truth r (rule t)) i l) (truth-holds r (rule t) i);
+      bits = λ i l. says (row-bit (length (r .samples)) (truth r (rule (body t))) i l) (truth-holds r (rule (body t)) i);
     })

@@ -1,12 +1,13 @@
 -- What the plain-form step promises of every accepted table: its plain form means the same over every lasso at every position, is itself an
 -- accepted plain table, and has at most two words for each written one and two more.
-use Prim.Native.Nat.{ℕ, zero, suc, _+_, _*_, _≤_, _<_}
+use Prim.Native.Nat.{ℕ, zero, suc, _+_, _*_, _≤_, _<_, min}
 use native.Mathlib.Omega.{arith}
 use mathlib.Core.Path.{_≡_, refl, sym, ap₂, _∙_, subst}
 use mathlib.Core.Logic.{_↔_}
 use mathlib.Core.Bool.{Bool, true, false, not}
 use mathlib.Core.List.{List, _++_}
 use lib.ListN.{length, getD, take, drop}
+use borrow.Author.Tests.{le-leb}
 use Rattle.logic.specs.Formula.{Formula, const, lit, un, bin, next, neg, finally, globally, conj, disj, until, weak, release, strong, implies}
 use Rattle.logic.specs.Lasso.{Lasso, word}
 use Rattle.logic.specs.Semantics.{Holds}
@@ -19,10 +20,12 @@ use Rattle.table.specs.Checks.{isOperand, checked}
 use Rattle.table.specs.Steps.{plainTable}
 use Rattle.table.specs.declared.answer.Answer.the-variants.{Made}
 use Rattle.table.specs.declared.limits.Limits.{Limits}
-use Rattle.table.specs.Numbering.{fits}
+use Rattle.table.specs.Header.{headed, body, headedChecked}
+use Rattle.table.specs.StepChecks.{resultFits}
 use Rattle.table.specs.Frame.{plainStep, answerOf, resultOf}
 use Rattle.table.proofs.Frame.{made-answer, made-result}
 use Rattle.table.proofs.Accepted.{WellFormedWord, accepted-well-formed, accepted-formula}
+use Rattle.table.proofs.Header.{accepted-headed}
 use Rattle.table.proofs.Letters.{formula-letters}
 use Rattle.numbering.specs.Held.{Distinct, Held}
 use Rattle.logic.specs.Letters.{Letters}
@@ -30,7 +33,6 @@ use Rattle.numbering.proofs.Building.{tableOf-distinct}
 use Rattle.numbering.proofs.Built.{Built, Hereditary, tableOf-built, made-held, held-once}
 use Rattle.numbering.proofs.Used.{rule-tableOf}
 use Rattle.numbering.proofs.Accepted.{plain-small, accepted-tableOf}
-use Rattle.placing.proofs.Putting.{fits-true}
 use Rattle.plain_draft.specs.Forming.{formOf, slotOf}
 use Rattle.plain_draft.proofs.Filling.{slot-same, slot-bounds}
 use Rattle.logic.proofs.Pigeonhole.{pigeonhole}
@@ -178,15 +180,18 @@ module _ (limit : ℕ) (t : List ℕ) (ok : checked false limit t ≡ Accepted) 
     pub plain-letters : (Q : ℕ → Type 0) → Letters Q (rule t) → Letters Q (rule (plainTable t))
     plain-letters Q l = subst (Letters Q) (sym plain-rule) (letters-plain Q true (rule t) l)
 
--- a slice of two words for each written one and two more is long enough, so the step answers the form and puts it at the front
-module _ (l : Limits) (small : l .written ≤ 8190) (t : List ℕ) (ok : checked false (l .written) t ≡ Accepted) (result : List ℕ) (long : 2 * length t + 2 ≤ length result) where
-  long-enough : fits (length (plainTable t)) (length result) ≡ true
-  long-enough = fits-true (length (plainTable t)) (length result) (omega (arith, plain-length (l .written) t ok, plain-short (l .written) t ok, long))
+-- a slice of two words for each written one and two more, and the header, is long enough, so the step answers the form and puts it at the front
+module _ (l : Limits) (small : l .written ≤ 8190) (t : List ℕ) (ok : headedChecked false (l .written) t ≡ Accepted) (result : List ℕ)
+    (long : 2 * length (body t) + 3 ≤ length result) where
+  long-enough : resultFits (length (headed (plainTable (body t)))) (length result) ≡ true
+  long-enough =
+      let words = accepted-headed false (l .written) t ok .words in
+      le-leb (suc (length (plainTable (body t)))) (min (length result) 16384) (omega (arith, plain-length (l .written) (body t) words, plain-short (l .written) (body t) words, long))
 
-  pub plain-answered : answerOf (plainStep l) t (length result) ≡ Made (length (plainTable t))
-  unfolding checked
+  pub plain-answered : answerOf (plainStep l) t (length result) ≡ Made (length (headed (plainTable (body t))))
+  unfolding headedChecked
   plain-answered = made-answer (plainStep l) t result ok long-enough
 
-  pub plain-written : resultOf (plainStep l) t result ≡ plainTable t ++ drop (length (plainTable t)) result
-  unfolding checked
+  pub plain-written : resultOf (plainStep l) t result ≡ headed (plainTable (body t)) ++ drop (length (headed (plainTable (body t)))) result
+  unfolding headedChecked
   plain-written = made-result (plainStep l) t result ok long-enough

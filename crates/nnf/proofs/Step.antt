@@ -1,24 +1,24 @@
 -- The plain form numbered into the part of a slice that is lent, and how the step ends.
-use Prim.Native.Nat.{ℕ, _+_, _*_, _≤_, min}
+use Prim.Native.Nat.{ℕ, _+_, _-_, _*_, _≤_, min}
 use native.Mathlib.Omega.{arith}
-use mathlib.Core.Path.{_≡_, sym, ap, _∙_}
+use mathlib.Core.Path.{_≡_}
 use mathlib.Core.Bool.{true, false}
-use mathlib.Core.List.{List, _++_}
-use lib.ListN.{length, take, drop, replicate, length-replicate, length-append, length-drop}
-use lib.Seq.{length-take-le}
+use mathlib.Core.List.{List}
+use lib.ListN.{length, take, replicate, length-replicate, length-drop}
+use borrow.Rule.Slice.PartMut.{putMid}
 use Rattle.logic.specs.NegationNormalForm.{plain}
 use Rattle.logic.proofs.Numbers.{getD-zeros}
 use Rattle.table.proofs.Accepted.{accepted-well-formed}
+use Rattle.table.proofs.Header.{accepted-headed}
 use Rattle.refusals.specs.declared.Refusal.{Refusal}
-use Rattle.refusals.specs.declared.Outcome.{Outcome}
 use Rattle.refusals.specs.declared.Outcome.the-variants as outcome
-use Rattle.refusals.specs.declared.Refusal.the-variants.{ResultTooShort}
-use Rattle.table.specs.declared.answer.Answer.the-variants.{Made, Refused}
+use Rattle.table.specs.declared.answer.Answer.{Answer}
+use Rattle.table.specs.declared.answer.Answer.the-variants.{Refused}
 use Rattle.table.specs.declared.limits.Limits.{Limits}
 use Rattle.table.specs.Frame.{plainStep}
 use Rattle.table.proofs.Frame.{plain-early}
 use Rattle.table.specs.Limits.{plainLimit}
-use Rattle.table.specs.Checks.{checked}
+use Rattle.table.specs.Header.{headed, body, headedChecked}
 use Rattle.table.specs.Table.{rule}
 use Rattle.table.specs.Steps.{plainTable}
 use Rattle.placing.specs.State.{state, Numbered}
@@ -26,10 +26,13 @@ use Rattle.placing.specs.Written.{Written, Ends}
 use Rattle.draft.specs.Drafted.{Drafted}
 use Rattle.draft.specs.Numberable.{Numberable}
 use Rattle.placing.proofs.Putting.{numbered-none}
-use Rattle.placing.proofs.Written.{written-part, ends-refused, ends-too-long, ends-made}
+use Rattle.placing.proofs.Written.{ends-refused}
+use Rattle.heading.specs.Finished.{Finishable, Finished, Given}
+use Rattle.heading.proofs.Ends.{given-ends}
+use Rattle.heading.proofs.Lent.{lent-finishable, lent-given}
 use Rattle.draft.proofs.Remembering.{remembered-none}
-use Rattle.nnf.specs.Writable.{slots, Writable, Empty}
-use Rattle.nnf.proofs.Promise.{plain-short}
+use Rattle.nnf.specs.Writable.{slots, Writable, Formable, Empty}
+use Rattle.nnf.proofs.Promise.{plain-short, plain-accepted}
 
 -- what drafting and numbering are asked with, in slots that are all 0
 pub nothing-drafted : {t out : List ℕ} → Writable t out → Empty t (replicate slots 0)
@@ -55,29 +58,34 @@ numberable {d} {built} t e drafted = record {
   remembered = remembered-none d slots built;
 }
 
--- what the checks said, by a limit that no table's own is below
-pub checked-by : (l : Limits) (t : List ℕ) {r o : Outcome} → plainLimit l ≤ slots → r ≡ checked false (min (l .written) 16383) t → r ≡ o → checked false (l .written) t ≡ o
-checked-by l t small e f =
-    let m : l .written ≡ min (l .written) 16383 = omega arith in
-    ap (λ (n : ℕ). checked false n t) m ∙ sym e ∙ f
-
 module _ (l : Limits) (t result : List ℕ) where
-  pub refused : (r : Refusal) → checked false (l .written) t ≡ outcome.Refused r → Ends (plainStep l) t result (Refused r) result
-  unfolding checked
+  pub refused : (r : Refusal) → headedChecked false (l .written) t ≡ outcome.Refused r → Ends (plainStep l) t result (Refused r) result
+  unfolding headedChecked
   refused r e = ends-refused (plainStep l) t result (plain-early l) r e
 
-  -- a part with room for every plain form that its limit allows
-  module _ {part : List ℕ} {k n : ℕ} (ok : checked false (l .written) t ≡ outcome.Accepted) (h : k ≡ min (length result) (plainLimit l))
-      (q : Written (plainTable t) (take k result) part n) where
-    whole : Written (plainTable t) result (part ++ drop k result) n
-    whole = written-part (plainTable t) result (plain-short (l .written) t ok) h q
+  -- the words of an accepted table have a plain form
+  module _ (ok : headedChecked false (l .written) t ≡ outcome.Accepted) where
+    pub formable : plainLimit l ≤ slots → Formable (l .written) (body t)
+    formable room = record { accepted = accepted-headed false (l .written) t ok .words; room = room }
 
-    pub too-long : length part ≡ length (take k result) → n ≡ 0 → Ends (plainStep l) t result (Refused ResultTooShort) (replicate (length (part ++ drop k result)) 0)
-    unfolding checked
-    too-long same z =
-        let lent : length (take k result) ≡ k = length-take-le k result (omega arith) in
-        ends-too-long (plainStep l) t result ok whole (simp (length-append, length-drop) (omega (arith, same, lent))) z
+    pub given : {e : List ℕ} {r : Answer} → Given (headed (plainTable (body t))) result e r → Ends (plainStep l) t result r e
+    unfolding headedChecked
+    given g = given-ends (plainStep l) t result ok g
 
-    pub fitting : (n ≡ 0 → ⊥) → Ends (plainStep l) t result (Made n) (part ++ drop k result)
-    unfolding checked
-    fitting z = ends-made (plainStep l) t result ok whole z
+-- the words of a plain form, written after the place of their header to a part with room for every one that the limit allows
+module _ {limit : ℕ} {words : List ℕ} (q : Formable limit words) (result : List ℕ) {part : List ℕ} {k n : ℕ} (some : length result ≡ 0 → ⊥)
+    (h : k ≡ min (length result) (2 * limit + 3)) (same : length part ≡ length (take (k - 1) (body result)))
+    (w : Written (plainTable words) (take (k - 1) (body result)) part n) where
+  lent : k - 1 ≡ min (length (body result)) (2 * limit + 2)
+  lent = omega (arith, some, h, length-drop 1 result)
+
+  pub form-finishable : Finishable (putMid 1 (k - 1) result part) n
+  form-finishable = lent-finishable (plainTable words) result (omega (arith, some)) (2 * limit + 2) (plain-short limit words (q .accepted)) lent same w (λ z. record {
+    plainOnly = true;
+    limit = 2 * limit + 2;
+    accepted = plain-accepted limit words (q .accepted) (omega (arith, q .room)) true (2 * limit + 2) (omega arith) (omega (arith, q .room));
+    small = omega (arith, q .room);
+  })
+
+  pub form-given : {e : List ℕ} {r : Answer} → Finished (putMid 1 (k - 1) result part) n e r → Given (headed (plainTable words)) result e r
+  form-given = lent-given (plainTable words) result (omega (arith, some)) (2 * limit + 2) (plain-short limit words (q .accepted)) lent same w

@@ -18,6 +18,11 @@ pub record Writable (t out : List ℕ) : Type 0 where
   pub room : 2 * limit + 2 ≤ slots
   pub few : length out ≤ slots
 
+-- words that a limit accepts, whose forms have slots
+pub record Formable (limit : ℕ) (words : List ℕ) : Type 0 where
+  pub accepted : checked false limit words ≡ Accepted
+  pub room : 2 * limit + 2 ≤ slots
+
 -- an accepted table, and a draft for its forms with nothing in it
 pub record Empty (t d : List ℕ) : Type 0 where
   pub limit : ℕ

@@ -1,7 +1,6 @@
 // The plain-form step: a written table goes in, and its plain form's table comes out at the front of the result.
 use draft::number;
 use refusals::Outcome;
-use refusals::Refusal;
 use slots::slot;
 use table::answer::Answer;
 use table::limits::Limits;
@@ -14,9 +13,11 @@ ghost use Rattle.table.specs.Table.{rule};
 ghost use Rattle.draft.specs.Drafted.{Drafted};
 ghost use Rattle.table.specs.Limits.{desk, plainLimit};
 ghost use Rattle.table.specs.Frame.{plainStep, answerOf, resultOf};
+ghost use Rattle.table.specs.Header.{headed};
 ghost use Rattle.table.specs.Steps.{plainTable};
 ghost use Rattle.placing.specs.Written.{Written};
-ghost use Rattle.nnf.specs.Writable.{slots, Writable, Empty};
+ghost use Rattle.heading.specs.Finished.{Given};
+ghost use Rattle.nnf.specs.Writable.{slots, Writable, Formable, Empty};
 
 // Two slots for each of 64 written words, and the constants.
 const SLOTS: usize = 130;
@@ -28,24 +29,29 @@ pub fn plain_form(table: &[u32], result: &mut [u32]) -> Answer
     plain_form_within(Limits::desk(), table, result)
 }
 
-// The step by limits for which there are slots. No plain form is longer than the limit allows, so no more of the result than that is lent.
+// The step by limits for which there are slots.
 fn plain_form_within(limits: Limits, table: &[u32], result: &mut [u32]) -> Answer
     requires { ⌜ plainLimit limits ≤ slots ⌝ }
     ensures { λ r. ⌜ r ≡ answerOf (plainStep limits) (now (table .entry)) (length (now (result .entry))) ⌝ }
     ensures { λ r. ⌜ now (result .exit) ≡ resultOf (plainStep limits) (now (table .entry)) (now (result .entry)) ⌝ }
 {
-    match reading::check(table, false, limits.written) {
+    match heading::check(table, false, limits.written) {
         Outcome::Refused(r) => Answer::Refused(r),
-        Outcome::Accepted => {
-            let lent = lesser(result.len(), 2 * limits.written + 2);
-            let n = write(table, &mut result[..lent]);
-            if n == 0 {
-                clearing::words(result);
-                return Answer::Refused(Refusal::ResultTooShort);
-            }
-            Answer::Made(n)
-        }
+        Outcome::Accepted => answer(limits.written, &table[1..], result),
     }
+}
+
+// The plain form of accepted words, under its header. None is longer than the limit allows, so no more of the result than that is lent.
+fn answer(limit: usize, words: &[u32], result: &mut [u32]) -> Answer
+    requires { ⌜ Formable limit (now words) ⌝ }
+    ensures { λ r. ⌜ Given (headed (plainTable (now (words .entry)))) (now (result .entry)) (now (result .exit)) r ⌝ }
+{
+    if result.len() == 0 {
+        return heading::finish(result, 0);
+    }
+    let lent = lesser(result.len(), 2 * limit + 3);
+    let n = write(words, &mut result[1..lent]);
+    heading::finish(result, n)
 }
 
 fn lesser(a: usize, b: usize) -> usize

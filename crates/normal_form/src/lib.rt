@@ -6,6 +6,10 @@ use table::limits::Limits;
 ghost use mathlib.Core.Path.{_≡_};
 ghost use lib.ListN.{length};
 ghost use Rattle.table.specs.Limits.{desk};
+ghost use Rattle.table.specs.Header.{headed};
+ghost use Rattle.table.specs.Steps.{normalTable};
+ghost use Rattle.heading.specs.Finished.{Given};
+ghost use Rattle.forms.specs.Forms.{Accepted};
 ghost use Rattle.table.specs.Frame.{normalStep, answerOf, resultOf};
 
 pub fn normalise(table: &[u32], result: &mut [u32]) -> Answer
@@ -13,19 +17,26 @@ pub fn normalise(table: &[u32], result: &mut [u32]) -> Answer
     ensures { λ r. ⌜ now (result .exit) ≡ resultOf (normalStep desk) (now (table .entry)) (now (result .entry)) ⌝ }
 {
     let limits = Limits::desk();
-    match reading::check(table, true, 2 * limits.written + 2) {
+    match heading::check(table, true, 2 * limits.written + 2) {
         Outcome::Refused(r) => Answer::Refused(r),
         Outcome::Accepted => {
-            let past = fixpoints::past(table, limits.fixpoints);
+            let past = fixpoints::past(&table[1..], limits.fixpoints);
             if 0 < past {
                 return Answer::Refused(Refusal::TooManyFixpoints(past));
             }
-            let n = forms::form(table, result);
-            if n == 0 {
-                clearing::words(result);
-                return Answer::Refused(Refusal::ResultTooShort);
-            }
-            Answer::Made(n)
+            answer(&table[1..], result)
         }
     }
+}
+
+// The form of words that can be formed, under its header.
+fn answer(words: &[u32], result: &mut [u32]) -> Answer
+    requires { ⌜ Accepted (now words) ⌝ }
+    ensures { λ r. ⌜ Given (headed (normalTable (now (words .entry)))) (now (result .entry)) (now (result .exit)) r ⌝ }
+{
+    if result.len() == 0 {
+        return heading::finish(result, 0);
+    }
+    let n = forms::form(words, &mut result[1..]);
+    heading::finish(result, n)
 }

@@ -1,21 +1,20 @@
--- A formula's table written to a slice, or to a part of one, and how a step ends then.
+-- A formula's table written to a slice, or to a part of one; and a step that is refused before it writes.
 use Prim.Native.Nat.{ℕ, _≤_, _<_, min}
 use native.Mathlib.Omega.{arith}
 use mathlib.Core.Path.{_≡_, sym, ap, _∙_}
 use mathlib.Core.Bool.{false}
 use mathlib.Core.List.{List, [], _++_, append-assoc}
-use lib.ListN.{length, take, drop, replicate, take-append-drop}
+use lib.ListN.{length, take, drop, take-append-drop}
 use lib.Seq.{length-take-le, drop-append-le}
 use Rattle.logic.specs.Formula.{Formula}
 use Rattle.logic.specs.Letters.{Letters}
 use Rattle.refusals.specs.declared.Refusal.{Refusal}
-use Rattle.refusals.specs.declared.Refusal.the-variants.{ResultTooShort}
 use Rattle.refusals.specs.declared.Outcome.the-variants as outcome
-use Rattle.table.specs.declared.answer.Answer.the-variants.{Made, Refused}
+use Rattle.table.specs.declared.answer.Answer.the-variants.{Refused}
 use Rattle.refusals.specs.Refusals.{first}
 use Rattle.table.specs.Frame.{Step}
 use Rattle.table.specs.Numbering.{fits, build, tableOf}
-use Rattle.table.proofs.Frame.{Early, refused-answer, refused-result, too-long-answer, too-long-result, made-answer, made-result}
+use Rattle.table.proofs.Frame.{Early, refused-answer, refused-result}
 use Rattle.numbering.proofs.Used.{number-last}
 use Rattle.placing.specs.State.{State, count, written, Placing}
 use Rattle.placing.specs.Written.{Fitting, Written, Ends}
@@ -62,22 +61,6 @@ written-part u out {part} {most} {k} {n} short h q = record { unfit = unfit; fit
               ∙ ap (λ (x : List ℕ). u ++ x) (sym (drop-append-le (length u) (take k out) (drop k out) here) ∙ ap (drop (length u)) (take-append-drop k out));
         }
 
--- the three ways in which a step ends
-module _ (s : Step) (t result : List ℕ) where
-  pub ends-refused : Early s → (r : Refusal) → first (s .checks t) ≡ outcome.Refused r → Ends s t result (Refused r) result
-  ends-refused early r e = record { reply = sym (refused-answer s t result r e); slice = sym (refused-result s t result early r e) }
-
-  module _ {made : List ℕ} {n : ℕ} (ok : first (s .checks t) ≡ outcome.Accepted) (q : Written (s .makes t) result made n) where
-    pub ends-too-long : length made ≡ length result → n ≡ 0 → Ends s t result (Refused ResultTooShort) (replicate (length made) 0)
-    ends-too-long same z = record {
-      reply = sym (too-long-answer s t result ok (q .unfit z));
-      slice = ap (λ (m : ℕ). replicate m 0) same ∙ sym (too-long-result s t result ok (q .unfit z));
-    }
-
-    pub ends-made : (n ≡ 0 → ⊥) → Ends s t result (Made n) made
-    ends-made z =
-        let f = q .fit z in
-        record {
-          reply = ap Made (f .long) ∙ sym (made-answer s t result ok (f .fitting));
-          slice = f .words ∙ sym (made-result s t result ok (f .fitting));
-        }
+-- a step that is refused before 12
+pub ends-refused : (s : Step) (t result : List ℕ) → Early s → (r : Refusal) → first (s .checks t) ≡ outcome.Refused r → Ends s t result (Refused r) result
+ends-refused s t result early r e = record { reply = sym (refused-answer s t result r e); slice = sym (refused-result s t result early r e) }

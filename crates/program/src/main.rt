@@ -1,6 +1,6 @@
 // Prints the normal form of a rule that is read from standard input: a written table, its words least byte first, or after the argument
-// `text` a text. The form is the count in decimal, then each word on its line in eight hexadecimal digits, capitals, or after the
-// argument `as-text` a text. A refusal prints one line: refused, the number, at, the place.
+// `text` a text. The form is the count in decimal, then its header and each word on its line in eight hexadecimal digits, capitals, or
+// after the argument `as-text` a text. A refusal prints one line: refused, the number, at, the place.
 use refusals::Outcome;
 use refusals::Refusal;
 use table::answer::Answer;
@@ -34,17 +34,17 @@ fn rest() -> usize {
 
 // The form of a table, printed.
 fn answer(table: &[u32], as_text: bool) {
-    let mut plain = [0u32; 130];
-    let mut form = [0u32; 4096];
+    let mut plain = [0u32; 131];
+    let mut form = [0u32; 4097];
     match pipeline::normal_form(table, &mut plain, &mut form) {
         Answer::Made(n) => print::form(&form, n, as_text),
         Answer::Refused(r) => refused(r),
     }
 }
 
-// The words of at most 65, one more than a rule may have, so that a longer input is refused as a table.
+// The header and at most 65 words, one more than a rule may have, so that a longer input is refused as a table.
 fn answer_bytes(bytes: &[u8], as_text: bool) {
-    let mut words = [0u32; 65];
+    let mut words = [0u32; 66];
     let n = decoding::decode(bytes, &mut words);
     let table: &[u32] = &words;
     if n <= table.len() {
@@ -53,7 +53,7 @@ fn answer_bytes(bytes: &[u8], as_text: bool) {
 }
 
 fn table(as_text: bool) {
-    let mut bytes = [0u8; 260];
+    let mut bytes = [0u8; 264];
     let n = io::read_full(0, &mut bytes);
     let odd = rest();
     match decoding::check_input(n, odd) {
@@ -77,7 +77,7 @@ fn refused_text(r: Refusal, bytes: &[u8]) {
 }
 
 fn answer_text(bytes: &[u8], as_text: bool) {
-    let mut words = [0u32; 64];
+    let mut words = [0u32; 65];
     match text::read(bytes, &mut words) {
         Answer::Made(n) => {
             let table: &[u32] = &words;

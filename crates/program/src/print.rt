@@ -80,12 +80,14 @@ fn counted(form: &[u32], n: usize) {
     }
 }
 
-// A form of n words, as words or as a text.
+// A form of n words, its header the first, as words or as a text.
 pub fn form(all: &[u32], n: usize, as_text: bool) {
     if !as_text {
         words(all, n);
-    } else if n <= all.len() {
-        counted(&all[0..n], n);
+    } else if 0 < n {
+        if n <= all.len() {
+            counted(&all[1..n], n - 1);
+        }
     }
 }
 

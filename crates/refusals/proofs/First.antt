@@ -66,6 +66,10 @@ pub all-refusals-append : (P : Refusal → Type 0) (xs ys : List Check) → AllR
 all-refusals-append P [] ys p q = q
 all-refusals-append P (c ∷ xs) ys p q = (p .0, all-refusals-append P xs ys (p .1) q)
 
+pub all-refusals-map : (P Q : Refusal → Type 0) (cs : List Check) → ((r : Refusal) → P r → Q r) → AllRefusals P cs → AllRefusals Q cs
+all-refusals-map P Q [] f p = tt
+all-refusals-map P Q (c ∷ cs) f p = (f (c .refusal) (p .0), all-refusals-map P Q cs f (p .1))
+
 pub first-refusal : (P : Refusal → Type 0) (cs : List Check) (r : Refusal) → AllRefusals P cs → first cs ≡ Refused r → P r
 first-refusal P [] r p e = let z : _≡_ {A = ℕ} 0 1 = cc in absurd (omega arith)
 first-refusal P (c ∷ cs) r p e = go (c .fails) (first-refusal P cs r (p .1)) e

@@ -25,6 +25,8 @@ pub enum Refusal {
     TextTooLong,
     LetterNotDriven(usize),
     TooManyDriven,
+    CountDiffers,
+    HeaderWrong,
 }
 
 // A step that has nothing to say when it is accepted.
@@ -62,6 +64,8 @@ pub fn report_of(r: Refusal) -> Report
         Refusal::TextTooLong => Report(20, 0),
         Refusal::LetterNotDriven(n) => Report(21, n),
         Refusal::TooManyDriven => Report(22, 0),
+        Refusal::CountDiffers => Report(23, 0),
+        Refusal::HeaderWrong => Report(24, 0),
     }
 }
 

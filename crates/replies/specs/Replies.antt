@@ -27,7 +27,8 @@ pub record JudgeReply (j : Judged) (number judged held : ℕ) (holds : Bool) (mo
   pub is-failing : failing ≡ said (j .answer) .failing
   pub is-place : place ≡ said (j .answer) .place
 
--- where the rule's own row starts among the rows of a scratch, and how long it is; both 0 where there is none
+-- where the rule's own row starts among the rows of a scratch, one for each of so many words of a table, which leave out its header, and how long
+-- it is; both 0 where there is none
 abbrev pub rowFrom : Outcome → ℕ → ℕ → ℕ
 rowFrom outcome.Accepted table samples = (table - 1) * rowWords samples
 rowFrom (outcome.Refused r) table samples = 0

@@ -10,14 +10,14 @@ use lib.Seq.{getD-take, length-take-le}
 use lib.Dec.{eqb}
 use borrow.Author.Tests.{ltb-false, leb-false, eqb-true, eqb-false, le-ltb, lt-leb, ne-eqb, eq-eqb, not-false}
 use Rattle.refusals.specs.declared.Refusal.{Refusal}
-use Rattle.refusals.specs.declared.Outcome.the-variants.{Accepted, Refused}
+use Rattle.refusals.specs.declared.Outcome.the-variants.{Accepted}
 use Rattle.refusals.specs.Refusals.{first, numberOf}
 use Rattle.logic.specs.Formula.{const}
 use Rattle.table.specs.Node.{kind, left, right, shape}
 use Rattle.table.specs.Table.{formulaOf, formulaBy, formulas}
-use Rattle.table.specs.Checks.{isBlank, isOperand, isProposition, holdsLeft, holdsRight, occurs, uses, used, wordChecks, wordsChecks, useChecks, tableChecks, checked}
+use Rattle.table.specs.Checks.{isBlank, isOperand, isProposition, holdsLeft, holdsRight, occurs, uses, used, wordChecks, wordsChecks, useChecks, contentChecks, tableChecks, checked}
 use Rattle.table.proofs.Formulas.{formula-of-word}
-use Rattle.refusals.proofs.First.{Passed, first-passed, passed-first, first-append-both, AllRefusals, all-refusals-append, first-refusal}
+use Rattle.refusals.proofs.First.{Passed, first-passed, passed-first, first-append-both, AllRefusals, all-refusals-append}
 
 -- word number n, after the earlier words: its kind, its fields by what they hold, and that it is new
 pub record WellFormedWord (plainOnly : Bool) (earlier : List ℕ) (n w : ℕ) : Type 0 where
@@ -236,37 +236,25 @@ module _ {plainOnly : Bool} {limit : ℕ} {t : List ℕ} (f : WellFormed plainOn
       (λ e. omega (arith, f .word j h .operand-left e .1))
       (λ e. omega (arith, f .word j h .operand-right e .1))
 
--- a table is refused by one of the numbers 1 to 10, so never because a result is too short
-OfTable : Refusal → Type 0
-OfTable r = numberOf r ≤ 10
+-- words and their uses are refused by one of the numbers 3 to 10, so never because a result is too short
+abbrev pub OfWords : Refusal → Type 0
+OfWords r = numberOf r ≤ 10
 
-words-refusals : (plainOnly : Bool) (earlier ws : List ℕ) → AllRefusals OfTable (wordsChecks plainOnly earlier ws)
-unfolding wordsChecks wordChecks OfTable
+words-refusals : (plainOnly : Bool) (earlier ws : List ℕ) → AllRefusals OfWords (wordsChecks plainOnly earlier ws)
+unfolding wordsChecks wordChecks
 words-refusals plainOnly earlier [] = tt
 words-refusals plainOnly earlier (w ∷ ws) =
-    all-refusals-append OfTable
+    all-refusals-append OfWords
     (wordChecks plainOnly earlier (suc (length earlier)) w)
     (wordsChecks plainOnly (earlier ++ (w ∷ [])) ws)
     (omega arith)
     (words-refusals plainOnly (earlier ++ (w ∷ [])) ws)
 
-use-refusals : (t : List ℕ) (n k : ℕ) → AllRefusals OfTable (useChecks t n k)
-unfolding useChecks OfTable
+use-refusals : (t : List ℕ) (n k : ℕ) → AllRefusals OfWords (useChecks t n k)
+unfolding useChecks
 use-refusals t n zero = tt
 use-refusals t n (suc k) = (omega arith, use-refusals t (suc n) k)
 
-pub table-refusal : (plainOnly : Bool) (limit : ℕ) (t : List ℕ) (r : Refusal) → checked plainOnly limit t ≡ Refused r → numberOf r ≤ 10
-unfolding checked tableChecks OfTable
-table-refusal plainOnly limit t r e =
-    first-refusal OfTable (tableChecks plainOnly limit t) r (
-      omega arith,
-      (
-        omega arith,
-        all-refusals-append OfTable
-            (wordsChecks plainOnly [] t)
-            (useChecks t 1 (length t - 1))
-            (words-refusals plainOnly [] t)
-            (use-refusals t 1 (length t - 1)),
-      ),
-    )
-    e
+pub content-refusals : (plainOnly : Bool) (t : List ℕ) → AllRefusals OfWords (contentChecks plainOnly t)
+content-refusals plainOnly t =
+    all-refusals-append OfWords (wordsChecks plainOnly [] t) (useChecks t 1 (length t - 1)) (words-refusals plainOnly [] t) (use-refusals t 1 (length t - 1))

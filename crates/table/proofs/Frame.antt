@@ -1,29 +1,29 @@
 -- The three ways in which a step that makes words ends, said once for every step: refused before 12, too long, made.
-use Prim.Native.Nat.{ℕ, zero, suc, _≤_}
+use Prim.Native.Nat.{ℕ, zero, suc, _≤_, _<_, min}
 use mathlib.Core.Path.{_≡_, refl, ap, sym, _∙_}
-use mathlib.Core.Logic.{_↔_}
+use mathlib.Core.Logic.{_↔_, _⊎_, inl, inr}
 use mathlib.Core.Bool.{Bool, true, false, not, cond}
 use mathlib.Core.List.{List, [], _∷_, _++_}
 use native.Mathlib.Omega.{arith}
 use lib.ListN.{length, take, drop, replicate}
-use lib.Dec.{eqb, leb}
+use lib.Dec.{leb}
 use lib.Seq.{take-append-seam}
-use borrow.Author.Tests.{ne-eqb, leb-true, not-false}
+use borrow.Author.Tests.{ne-eqb, le-leb, lt-leb}
+use Rattle.logic.proofs.Numbers.{lt-or-le}
 use Rattle.refusals.specs.declared.Refusal.{Refusal}
 use Rattle.refusals.specs.declared.Refusal.the-variants.{ResultTooShort}
 use Rattle.refusals.specs.declared.Outcome.{Outcome}
 use Rattle.refusals.specs.declared.Outcome.the-variants as outcome
-use Rattle.table.specs.declared.answer.Answer.{Answer}
 use Rattle.table.specs.declared.answer.Answer.the-variants.{Made, Refused}
 use Rattle.table.specs.declared.limits.Limits.{Limits}
-use Rattle.refusals.specs.Refusals.{Check, first, numberOf}
+use Rattle.refusals.specs.Refusals.{first, numberOf}
 use Rattle.table.specs.Limits.{plainLimit}
-use Rattle.table.specs.Checks.{tableChecks, checked}
+use Rattle.table.specs.Header.{body, headedChecks, headedChecked}
 use Rattle.table.specs.Numbering.{room, fits}
-use Rattle.table.specs.StepChecks.{isFixpointWord, fixpointChecks, resultChecks}
+use Rattle.table.specs.StepChecks.{isFixpointWord, fixpointChecks, resultFits, resultChecks}
 use Rattle.table.specs.Frame.{Step, outcomeOf, answerBy, answerOf, resultBy, resultOf, answerNumber, classStep, plainStep, normalStep, dialectStep}
 use Rattle.refusals.proofs.First.{first-append-accepted, first-append-refused, first-append-both, AllRefusals, first-refusal}
-use Rattle.table.proofs.Accepted.{table-refusal}
+use Rattle.table.proofs.Header.{headed-refusal}
 
 -- no check before the last refuses for length
 pub record Early (s : Step) : Type 0 where
@@ -47,7 +47,7 @@ module _ (s : Step) (t slice : List ℕ) where
     unfolding outcomeOf
     last = first-append-accepted (s .checks t) (resultChecks (length (s .makes t)) (length slice)) ok
 
-    module _ (f : fits (length (s .makes t)) (length slice) ≡ false) where
+    module _ (f : resultFits (length (s .makes t)) (length slice) ≡ false) where
       pub too-long : outcomeOf s t (length slice) ≡ outcome.Refused ResultTooShort
       unfolding resultChecks
       too-long = last ∙ rw f
@@ -60,7 +60,7 @@ module _ (s : Step) (t slice : List ℕ) where
       unfolding resultOf
       too-long-result = ap (λ (o : Outcome). resultBy o (s .makes t) slice) too-long
 
-    module _ (f : fits (length (s .makes t)) (length slice) ≡ true) where
+    module _ (f : resultFits (length (s .makes t)) (length slice) ≡ true) where
       pub made : outcomeOf s t (length slice) ≡ outcome.Accepted
       unfolding resultChecks
       made = last ∙ rw f
@@ -73,11 +73,20 @@ module _ (s : Step) (t slice : List ℕ) where
       unfolding resultOf
       made-result = ap (λ (o : Outcome). resultBy o (s .makes t) slice) made
 
+-- a table fits under its header where its words fit after the header's place
+pub header-room : (k n : ℕ) → resultFits (suc k) (suc n) ≡ fits k n
+unfolding fits
+header-room k n = go (lt-or-le (room n) k)
+  where
+    go : ((room n < k) ⊎ (k ≤ room n)) → resultFits (suc k) (suc n) ≡ leb k (room n)
+    go (inl h) = lt-leb (suc k) (min (suc n) 16384) (omega arith) ∙ sym (lt-leb k (room n) h)
+    go (inr h) = le-leb (suc k) (min (suc n) 16384) (omega arith) ∙ sym (le-leb k (room n) h)
+
 -- what an answer tells: the words that were made fit, and stand at the front of the slice
 pub record Answered (s : Step) (t slice : List ℕ) (n : ℕ) : Type 0 where
   pub accepted : first (s .checks t) ≡ outcome.Accepted
   pub long : n ≡ length (s .makes t)
-  pub fitting : fits n (length slice) ≡ true
+  pub fitting : resultFits n (length slice) ≡ true
   pub front : take n (resultOf s t slice) ≡ s .makes t
 
 -- the last check passed, or refused
@@ -98,7 +107,7 @@ module _ (s : Step) (t slice : List ℕ) where
       by-outcome outcome.Accepted e a =
           let l : n ≡ length (s .makes t) = cc in
           let b = first-append-both (s .checks t) _ .0 e in
-          let f = fit-passed (fits (length (s .makes t)) (length slice)) (b .1) in
+          let f = fit-passed (resultFits (length (s .makes t)) (length slice)) (b .1) in
           record {
             accepted = b .0;
             long = l;
@@ -110,30 +119,30 @@ module _ (s : Step) (t slice : List ℕ) where
 -- to refuse for length is to answer 12: exactly when every check before passes and the words do not fit the slice
 module _ (s : Step) (y : Early s) (t slice : List ℕ) where
   not-fitting : answerNumber (answerOf s t (length slice)) ≡ 12 → (o : Outcome) → first (s .checks t) ≡ o
-      → (first (s .checks t) ≡ outcome.Accepted) × (fits (length (s .makes t)) (length slice) ≡ false)
+      → (first (s .checks t) ≡ outcome.Accepted) × (resultFits (length (s .makes t)) (length slice) ≡ false)
   not-fitting a (outcome.Refused r) e = absurd (y .early t r e (sym (ap answerNumber (refused-answer s t slice r e)) ∙ a))
-  not-fitting a outcome.Accepted e = (e, by-fit (fits (length (s .makes t)) (length slice)) refl)
+  not-fitting a outcome.Accepted e = (e, by-fit (resultFits (length (s .makes t)) (length slice)) refl)
     where
-      by-fit : (b : Bool) → fits (length (s .makes t)) (length slice) ≡ b → b ≡ false
+      by-fit : (b : Bool) → resultFits (length (s .makes t)) (length slice) ≡ b → b ≡ false
       by-fit false f = refl
       by-fit true f = absurd (let z : _≡_ {A = ℕ} 0 12 = sym (ap answerNumber (made-answer s t slice e f)) ∙ a in omega arith)
 
   pub refused-for-length : (answerNumber (answerOf s t (length slice)) ≡ 12)
-      ↔ ((first (s .checks t) ≡ outcome.Accepted) × (fits (length (s .makes t)) (length slice) ≡ false))
+      ↔ ((first (s .checks t) ≡ outcome.Accepted) × (resultFits (length (s .makes t)) (length slice) ≡ false))
   refused-for-length = (λ a. not-fitting a (first (s .checks t)) refl, λ p. ap answerNumber (too-long-answer s t slice (p .0) (p .1)))
 
 -- the steps of document 01 look at the length last
 pub class-early : Early classStep
-unfolding checked
-class-early = record { early = λ t r e n. omega (arith, table-refusal true 16383 t r e) }
+unfolding headedChecked
+class-early = record { early = headed-refusal true 16383 }
 
 pub dialect-early : Early dialectStep
-unfolding checked
-dialect-early = record { early = λ t r e n. omega (arith, table-refusal true 16383 t r e) }
+unfolding headedChecked
+dialect-early = record { early = headed-refusal true 16383 }
 
 pub plain-early : (l : Limits) → Early (plainStep l)
-unfolding checked
-plain-early l = record { early = λ t r e n. omega (arith, table-refusal false (l .written) t r e) }
+unfolding headedChecked
+plain-early l = record { early = headed-refusal false (l .written) }
 
 -- the checks on until-like words refuse by 11 alone
 fixpoint-refusals : (limit n : ℕ) (ws : List ℕ) → AllRefusals (λ r. numberOf r ≡ 11) (fixpointChecks limit n ws)
@@ -151,14 +160,14 @@ pub fixpoint-refusal : (limit : ℕ) (t : List ℕ) (r : Refusal) → first (fix
 fixpoint-refusal limit t r e = first-refusal (λ x. numberOf x ≡ 11) (fixpointChecks limit 1 t) r (fixpoint-refusals limit 1 t) e
 
 pub normal-early : (l : Limits) → Early (normalStep l)
-unfolding checked
-normal-early l = record { early = λ t r e n. by-table t r n (first (tableChecks true (plainLimit l) t)) refl e }
+unfolding headedChecked
+normal-early l = record { early = λ s r e n. by-table s r n (first (headedChecks true (plainLimit l) s)) refl e }
   where
-    by-table : (t : List ℕ) (r : Refusal) → numberOf r ≡ 12 → (o : Outcome) → first (tableChecks true (plainLimit l) t) ≡ o
-        → first (tableChecks true (plainLimit l) t ++ fixpointChecks (l .fixpoints) 1 t) ≡ outcome.Refused r → ⊥
-    by-table t r n outcome.Accepted k e =
-        omega (arith, fixpoint-refusal (l .fixpoints) t r (sym (first-append-accepted (tableChecks true (plainLimit l) t) _ k) ∙ e))
-    by-table t r n (outcome.Refused q) k e =
-        let a = first-append-refused (tableChecks true (plainLimit l) t) (fixpointChecks (l .fixpoints) 1 t) q k in
+    by-table : (s : List ℕ) (r : Refusal) → numberOf r ≡ 12 → (o : Outcome) → first (headedChecks true (plainLimit l) s) ≡ o
+        → first (headedChecks true (plainLimit l) s ++ fixpointChecks (l .fixpoints) 1 (body s)) ≡ outcome.Refused r → ⊥
+    by-table s r n outcome.Accepted k e =
+        omega (arith, fixpoint-refusal (l .fixpoints) (body s) r (sym (first-append-accepted (headedChecks true (plainLimit l) s) _ k) ∙ e))
+    by-table s r n (outcome.Refused q) k e =
+        let a = first-append-refused (headedChecks true (plainLimit l) s) (fixpointChecks (l .fixpoints) 1 (body s)) q k in
         let same : r ≡ q = cc in
-        omega (arith, table-refusal true (plainLimit l) t q k, ap numberOf same)
+        headed-refusal true (plainLimit l) s q k (sym (ap numberOf same) ∙ n)

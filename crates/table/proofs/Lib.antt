@@ -5,5 +5,6 @@ pub mod KindRanges
 pub mod Formulas
 pub mod Accepted
 pub mod Letters
+pub mod Header
 pub mod Frame
 pub mod Cases

@@ -1,4 +1,4 @@
--- The starred cases of document 01 as rows of one table, and what each row says of the definitions.
+-- The starred cases of document 01, their tables with the header of document 02, as rows of one table, and what each row says of the definitions.
 use Prim.Native.Nat.{ℕ, _<_}
 use mathlib.Core.Path.{_≡_}
 use mathlib.Core.Bool.{Bool, true, false}
@@ -15,7 +15,7 @@ use Rattle.refusals.specs.declared.Outcome.{Outcome}
 use Rattle.refusals.specs.declared.Outcome.the-variants.{Accepted, Refused}
 use Rattle.refusals.specs.Refusals.{numberOf, placeOf}
 use Rattle.table.specs.Table.{rule}
-use Rattle.table.specs.Checks.{checked}
+use Rattle.table.specs.Header.{headed, body, headedChecked}
 use Rattle.table.specs.Steps.{plainTable, normalTable}
 
 pub data Case : Type 0 where
@@ -37,11 +37,11 @@ IsRefusal (Refused r) n p = (numberOf r ≡ n) × (placeOf r ≡ p)
 
 -- what a row says
 abbrev pub Right : Case → Type 0
-Right (normal t u) = normalTable t ≡ u
-Right (plain t u) = plainTable t ≡ u
-Right (refused t n p) = IsRefusal (checked false 64 t) n p
-Right (class t b) = classByte (rule t) ≡ b
-Right (judged t r bs) = (i : ℕ) → i < length bs → Holds (word r) (rule t) i ↔ T (getD bs i false)
+Right (normal t u) = headed (normalTable (body t)) ≡ u
+Right (plain t u) = headed (plainTable (body t)) ≡ u
+Right (refused t n p) = IsRefusal (headedChecked false 64 t) n p
+Right (class t b) = classByte (rule (body t)) ≡ b
+Right (judged t r bs) = (i : ℕ) → i < length bs → Holds (word r) (rule (body t)) i ↔ T (getD bs i false)
 
 -- a recording of two samples, looped at the second; and one sample for ever; both drive all 32 letters
 abbrev pub twice : ℕ → ℕ → Lasso
@@ -52,24 +52,36 @@ once a = record { samples = a ∷ []; start = 0; driven = 32; inside = lit< tt; 
 
 abbrev pub starred : List Case
 starred =
-    normal (0x30000001 ∷ []) (0x30000001 ∷ [])
-    ∷ normal (0x20000000 ∷ 0x30000001 ∷ 0x80004002 ∷ [])
-    (0x20000000 ∷ 0x30000001 ∷ 0x80004002 ∷ 0x10000000 ∷ 0x80004003 ∷ 0xA0010005 ∷ 0x5000C006 ∷ 0x6000C007 ∷ [])
-    ∷ plain (0x30000001 ∷ 0xD0000001 ∷ 0xC0000002 ∷ []) (0x10000000 ∷ 0x40000001 ∷ 0xA0004002 ∷ [])
-    ∷ refused (0x00000000 ∷ []) 3 1
-    ∷ refused (0x20000000 ∷ 0x70000000 ∷ []) 5 2
-    ∷ judged (0x30000001 ∷ 0xE0000001 ∷ []) (twice 0 1) (false ∷ true ∷ [])
-    ∷ judged (0x30000001 ∷ 0xD0000001 ∷ []) (twice 1 0) (true ∷ false ∷ [])
-    ∷ judged (0x30000001 ∷ 0x30000002 ∷ 0x90004002 ∷ []) (once 1) (true ∷ [])
-    ∷ judged (0x30000001 ∷ 0x30000002 ∷ 0x80004002 ∷ []) (once 1) (false ∷ [])
-    ∷ class (0x30000001 ∷ 0x20000000 ∷ 0x80008001 ∷ 0x10000000 ∷ 0xA0010003 ∷ []) 0x60
-    ∷ class (0x30000001 ∷ 0x20000000 ∷ 0x80008001 ∷ []) 0x7A
-    ∷ class (0x30000001 ∷ 0x70000001 ∷ []) 0x7E
-    ∷ class (0x30000001 ∷ 0x20000000 ∷ 0x80008001 ∷ 0x10000000 ∷ 0xA0010003 ∷ 0x80008005 ∷ []) 0x00
+    normal (0x001FC001 ∷ 0x30000001 ∷ []) (0x001FC001 ∷ 0x30000001 ∷ [])
+    ∷ normal (0x001E8003 ∷ 0x20000000 ∷ 0x30000001 ∷ 0x80004002 ∷ [])
+    (0x00180008 ∷ 0x20000000 ∷ 0x30000001 ∷ 0x80004002 ∷ 0x10000000 ∷ 0x80004003 ∷ 0xA0010005 ∷ 0x5000C006 ∷ 0x6000C007 ∷ [])
+    ∷ plain (0x00000003 ∷ 0x30000001 ∷ 0xD0000001 ∷ 0xC0000002 ∷ []) (0x001F0003 ∷ 0x10000000 ∷ 0x40000001 ∷ 0xA0004002 ∷ [])
+    ∷ refused (0x00000001 ∷ 0x00000000 ∷ []) 3 1
+    ∷ refused (0x00000002 ∷ 0x20000000 ∷ 0x70000000 ∷ []) 5 2
+    ∷ judged (0x00000002 ∷ 0x30000001 ∷ 0xE0000001 ∷ []) (twice 0 1) (false ∷ true ∷ [])
+    ∷ judged (0x00000002 ∷ 0x30000001 ∷ 0xD0000001 ∷ []) (twice 1 0) (true ∷ false ∷ [])
+    ∷ judged (0x001F0003 ∷ 0x30000001 ∷ 0x30000002 ∷ 0x90004002 ∷ []) (once 1) (true ∷ [])
+    ∷ judged (0x001E8003 ∷ 0x30000001 ∷ 0x30000002 ∷ 0x80004002 ∷ []) (once 1) (false ∷ [])
+    ∷ class (0x00180005 ∷ 0x30000001 ∷ 0x20000000 ∷ 0x80008001 ∷ 0x10000000 ∷ 0xA0010003 ∷ []) 0x60
+    ∷ class (0x001E8003 ∷ 0x30000001 ∷ 0x20000000 ∷ 0x80008001 ∷ []) 0x7A
+    ∷ class (0x001F8002 ∷ 0x30000001 ∷ 0x70000001 ∷ []) 0x7E
+    ∷ class (0x00000006 ∷ 0x30000001 ∷ 0x20000000 ∷ 0x80008001 ∷ 0x10000000 ∷ 0xA0010003 ∷ 0x80008005 ∷ []) 0x00
     -- not starred: a left field that must be 0 is looked at before an operand that is 0; the left operand before the right;
     -- and p2 M p1 fails where p1 holds for ever and p2 never
-    ∷ refused (0x70004000 ∷ []) 8 1
-    ∷ refused (0x50004000 ∷ []) 6 1
-    ∷ judged (0x30000001 ∷ 0x30000002 ∷ 0xB0008001 ∷ []) (once 1) (false ∷ [])
-    ∷ judged (0x30000001 ∷ 0x30000002 ∷ 0xA0008001 ∷ []) (once 1) (true ∷ [])
+    ∷ refused (0x00000001 ∷ 0x70004000 ∷ []) 8 1
+    ∷ refused (0x00000001 ∷ 0x50004000 ∷ []) 6 1
+    ∷ judged (0x001E8003 ∷ 0x30000001 ∷ 0x30000002 ∷ 0xB0008001 ∷ []) (once 1) (false ∷ [])
+    ∷ judged (0x001F0003 ∷ 0x30000001 ∷ 0x30000002 ∷ 0xA0008001 ∷ []) (once 1) (true ∷ [])
+    -- of document 02, N5: the form of G p1; no header, and a count of 0; a count over the limit before one that differs; a count that differs; a
+    -- header's class and its kind, after the words and their uses
+    ∷ normal (0x001F0003 ∷ 0x10000000 ∷ 0x30000001 ∷ 0xA0004002 ∷ [])
+    (0x0014000A ∷ 0x10000000 ∷ 0x30000001 ∷ 0xA0004002 ∷ 0x60004003 ∷ 0xB0010002 ∷ 0x20000000 ∷ 0xA0004003 ∷ 0x80018007 ∷ 0x50014008 ∷ 0x60014009 ∷ [])
+    ∷ refused [] 1 0
+    ∷ refused (0x001FC000 ∷ 0x30000001 ∷ []) 1 0
+    ∷ refused (0x00000041 ∷ 0x30000001 ∷ []) 2 0
+    ∷ refused (0x001FC002 ∷ 0x30000001 ∷ []) 23 0
+    ∷ refused (0x00000002 ∷ 0x30000001 ∷ 0x30000002 ∷ []) 10 1
+    ∷ refused (0x00000001 ∷ 0x30000001 ∷ []) 24 0
+    ∷ refused (0x101FC001 ∷ 0x30000001 ∷ []) 24 0
+    ∷ refused (0x001FC002 ∷ 0x30000001 ∷ 0xD0000001 ∷ []) 24 0
     ∷ []

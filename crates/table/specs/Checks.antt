@@ -68,12 +68,16 @@ unfoldable pub useChecks : List ℕ → ℕ → ℕ → List Check
 useChecks t n zero = []
 useChecks t n (suc k) = (not (used n t) ⇒ Unused n) ∷ useChecks t (suc n) k
 
--- the whole table, then each word, then that all but the last are used
+-- each word, then that all but the last are used
+abbrev pub contentChecks : Bool → List ℕ → List Check
+contentChecks plainOnly t = wordsChecks plainOnly [] t ++ useChecks t 1 (length t - 1)
+
+-- of words without a header: how many they are, then what they are
 unfoldable pub tableChecks : Bool → ℕ → List ℕ → List Check
 tableChecks plainOnly limit t =
     (eqb (length t) 0 ⇒ NoWord)
     ∷ (ltb limit (length t) ⇒ TooManyWords)
-    ∷ wordsChecks plainOnly [] t ++ useChecks t 1 (length t - 1)
+    ∷ contentChecks plainOnly t
 
 unfoldable pub checked : Bool → ℕ → List ℕ → Outcome
 checked plainOnly limit t = first (tableChecks plainOnly limit t)

@@ -12,28 +12,31 @@ use Rattle.table.specs.declared.answer.Answer.the-variants.{Made, Refuse
 use Rattle.table.specs.declared.limits.Limits.{Limits}
 use Rattle.refusals.specs.Refusals.{Check, first, reportOf, outcomeReport, numberOf}
 use Rattle.table.specs.Limits.{plainLimit, mostWords}
-use Rattle.table.specs.Checks.{tableChecks}
+use Rattle.table.specs.Header.{headed, body, headedChecks}
 use Rattle.table.specs.StepChecks.{fixpointChecks, resultChecks}
 use Rattle.table.specs.Steps.{classBytes, plainTable, normalTable, dialectTable}
 
--- what a step checks of a table before 12, and what it makes of one
+-- what a step checks of what is handed over, before 12, and what it makes of it
 pub record Step : Type 0 where
   pub checks : List ℕ → List Check
   pub makes : List ℕ → List ℕ
 
--- the steps of document 01; the class step makes bytes, the others words
+-- the steps of document 01, over tables with their header; the class step makes bytes, one a word, the others a table with its header
 abbrev pub classStep : Step
-classStep = record { checks = tableChecks true mostWords; makes = classBytes }
+classStep = record { checks = headedChecks true mostWords; makes = λ s. classBytes (body s) }
 
 abbrev pub plainStep : Limits → Step
-plainStep l = record { checks = tableChecks false (l .written); makes = plainTable }
+plainStep l = record { checks = headedChecks false (l .written); makes = λ s. headed (plainTable (body s)) }
 
 abbrev pub normalStep : Limits → Step
-normalStep l = record { checks = λ t. tableChecks true (plainLimit l) t ++ fixpointChecks (l .fixpoints) 1 t; makes = normalTable }
+normalStep l = record {
+  checks = λ s. headedChecks true (plainLimit l) s ++ fixpointChecks (l .fixpoints) 1 (body s);
+  makes = λ s. headed (normalTable (body s));
+}
 
 -- document 02, N4
 abbrev pub dialectStep : Step
-dialectStep = record { checks = tableChecks true mostWords; makes = dialectTable }
+dialectStep = record { checks = headedChecks true mostWords; makes = λ s. headed (dialectTable (body s)) }
 
 -- 12 is looked at last, for the slice that the words are to be written to
 unfoldable pub outcomeOf : Step → List ℕ → ℕ → Outcome

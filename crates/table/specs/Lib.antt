@@ -2,6 +2,7 @@
 pub mod Node
 pub mod Table
 pub mod Checks
+pub mod Header
 pub mod Numbering
 pub mod Steps
 pub mod StepChecks

@@ -48,10 +48,10 @@ build t (bin o a b) =
 unfoldable pub tableOf : Formula → List ℕ
 tableOf φ = build [] φ .table
 
--- the number of words that a slice counts for
+-- the number of words, without a header, that a slice counts for
 abbrev pub room : ℕ → ℕ
 room n = min n 16383
 
--- whether a table of so many words fits a slice of n
+-- whether so many words, without a header, fit a slice of n
 unfoldable pub fits : ℕ → ℕ → Bool
 fits words n = leb words (room n)

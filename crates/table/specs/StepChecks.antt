@@ -1,6 +1,6 @@
 -- The checks that stand beside those of a table: 18 of a program's input, 11 of a plain table, 12 of a result, 22 and 21 of the letters that are driven.
 -- The judge's, 13 to 17, stand with the judge.
-use Prim.Native.Nat.{ℕ, zero, suc, _%_}
+use Prim.Native.Nat.{ℕ, zero, suc, _%_, min}
 use mathlib.Core.Bool.{Bool, not, _&&_, cond}
 use mathlib.Core.List.{List, [], _∷_}
 use lib.Dec.{ltb, leb, eqb}
@@ -8,7 +8,7 @@ use Rattle.refusals.specs.declared.Refusal.the-variants.{TooManyFixpoints, Resu
 use Rattle.refusals.specs.Refusals.{Check, _⇒_}
 use Rattle.table.specs.Node.{kind, right}
 use Rattle.table.specs.Checks.{isProposition, holdsRight}
-use Rattle.table.specs.Numbering.{fits}
+use Rattle.table.specs.Limits.{mostWords}
 
 -- kinds 8 to 11, the until-like words
 abbrev pub isFixpointWord : ℕ → Bool
@@ -18,9 +18,13 @@ isFixpointWord w = leb 8 (kind w) && leb (kind w) 11
 unfoldable pub inputChecks : ℕ → List Check
 inputChecks bytes = (not (eqb (bytes % 4) 0) ⇒ NotWords) ∷ []
 
--- 12: a result of so many words does not fit the slice
+-- whether a result of so many words fits a slice, which counts for a header and the most words of a table
+abbrev pub resultFits : ℕ → ℕ → Bool
+resultFits words slice = leb words (min slice (suc mostWords))
+
+-- 12: it does not
 unfoldable pub resultChecks : ℕ → ℕ → List Check
-resultChecks words slice = (not (fits words slice) ⇒ ResultTooShort) ∷ []
+resultChecks words slice = (not (resultFits words slice) ⇒ ResultTooShort) ∷ []
 
 -- 11: the place of the first until-like word past the limit; words are numbered from n on
 unfoldable pub fixpointChecks : ℕ → ℕ → List ℕ → List Check

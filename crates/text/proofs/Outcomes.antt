@@ -1,29 +1,39 @@
 -- The ways in which reading a text ends, each with its answer and its slice: 20, 19, 2, 12, and a table.
-use Prim.Native.Nat.{ℕ, _≤_, _<_}
+use Prim.Native.Nat.{ℕ, suc, _+_, _-_, _≤_, _<_, min}
 use native.Mathlib.Omega.{arith}
-use mathlib.Core.Path.{_≡_, refl, sym, ap, _∙_}
-use mathlib.Core.Bool.{Bool, true, false}
-use mathlib.Core.List.{List, [], _∷_, _++_}
-use mathlib.Core.Option.{Option, none, some}
-use lib.ListN.{length, take, drop, replicate, length-replicate}
-use lib.Dec.{ltb}
-use borrow.Author.Tests.{lt-ltb, le-ltb}
+use mathlib.Core.Path.{_≡_, refl, sym, ap, subst, _∙_}
+use mathlib.Core.Bool.{true, false, true≢false}
+use mathlib.Core.List.{List, _++_}
+use mathlib.Core.Option.{none}
+use mathlib.Core.Option as option
+use lib.ListN.{length, take, drop, replicate, length-replicate, length-drop}
+use lib.Seq.{take-all, length-take-le}
+use borrow.Author.Tests.{lt-ltb, le-ltb, lt-leb, le-leb}
 use Rattle.logic.specs.Formula.{Formula}
 use Rattle.logic.proofs.Numbers.{getD-zeros}
 use Rattle.refusals.specs.declared.Refusal.{Refusal}
 use Rattle.refusals.specs.declared.Refusal.the-variants.{TooManyWords, ResultTooShort, NotGrammar, TextTooLong}
 use Rattle.refusals.specs.declared.Outcome.the-variants as outcome
+use Rattle.table.specs.declared.answer.Answer.{Answer}
 use Rattle.table.specs.declared.answer.Answer.the-variants.{Made, Refused}
 use Rattle.table.specs.declared.limits.Limits.{Limits}
 use Rattle.table.specs.Limits.{desk}
-use Rattle.refusals.specs.Refusals.{first, decideBy, _⇒_, numberOf}
-use Rattle.table.specs.Numbering.{tableOf, room, fits}
-use Rattle.table.specs.Frame.{Step, answerOf, resultOf}
-use Rattle.refusals.proofs.First.{AllRefusals, first-refusal}
-use Rattle.table.proofs.Frame.{Early, refused-answer, refused-result, too-long-answer, too-long-result, made-answer, made-result}
+use Rattle.refusals.specs.Refusals.{first, numberOf}
+use Rattle.table.specs.Numbering.{tableOf}
+use Rattle.table.specs.Header.{headed, body}
+use Rattle.table.specs.Frame.{answerOf, resultOf}
+use Rattle.refusals.proofs.First.{first-refusal}
+use Rattle.table.proofs.Frame.{Early, refused-answer, refused-result}
+use Rattle.placing.specs.Written.{Written}
+use Rattle.headers.specs.Headable.{Headable}
+use Rattle.headers.proofs.Headable.{some, few}
+use Rattle.heading.specs.Finished.{Finishable, Finished, Given}
+use Rattle.heading.proofs.Ends.{given-ends}
+use Rattle.heading.proofs.Lent.{lent-finishable, lent-given}
+use borrow.Rule.Slice.PartMut.{putMid}
 use Rattle.placing.specs.State as draft
-use Rattle.placing.proofs.Putting.{written-length, numbered-none, fits-true, fits-false}
-use Rattle.grammar.specs.Reader.{isNone, readingOf, departureOf}
+use Rattle.placing.proofs.Putting.{written-length, numbered-none, fits-true}
+use Rattle.grammar.specs.Reader.{readingOf, departureOf}
 use Rattle.parsing.specs.Parsed.{Fresh, Parsed}
 use Rattle.text.specs.Text.{tableBy, textTable, textStep}
 
@@ -54,7 +64,7 @@ module _ (text : List ℕ) (slice : List ℕ) where
         → (Refused (NotGrammar r) ≡ answerOf (textStep desk) text (length slice)) × (slice ≡ resultOf (textStep desk) text slice)
     outcome-departs r d = refused (NotGrammar r) (rw (le-ltb 1024 (length text) h, d .0, d .1))
 
-    module _ (φ : Formula) (e : readingOf text ≡ some φ) where
+    module _ (φ : Formula) (e : readingOf text ≡ option.some φ) where
       table-is : textTable text ≡ tableOf φ
       unfolding textTable
       table-is = ap tableBy e
@@ -66,19 +76,20 @@ module _ (text : List ℕ) (slice : List ℕ) where
         passes : first (textStep desk .checks text) ≡ outcome.Accepted
         passes = rw (le-ltb 1024 (length text) h, e, table-is, le-ltb 64 (length (tableOf φ)) k)
 
-        pub outcome-short : length slice < length (tableOf φ)
-            → (Refused ResultTooShort ≡ answerOf (textStep desk) text (length slice)) × (replicate (length slice) 0 ≡ resultOf (textStep desk) text slice)
-        outcome-short l =
-            let f : fits (length (textTable text)) (length slice) ≡ false = rw table-is (fits-false _ _ (omega arith)) in
-            (sym (too-long-answer (textStep desk) text slice passes f), sym (too-long-result (textStep desk) text slice passes f))
+        -- the words under their header
+        pub outcome-given : {words e : List ℕ} {r : Answer} → words ≡ tableOf φ → Given (headed words) slice e r
+            → (r ≡ answerOf (textStep desk) text (length slice)) × (e ≡ resultOf (textStep desk) text slice)
+        outcome-given {words} {e} {r} w g =
+            let q = given-ends (textStep desk) text slice passes (subst (λ (t : List ℕ). Given (headed t) slice e r) (w ∙ sym table-is) g) in
+            (q .reply, q .slice)
 
-        pub outcome-made : length (tableOf φ) ≤ length slice
-            → (Made (length (tableOf φ)) ≡ answerOf (textStep desk) text (length slice)) × (tableOf φ ++ drop (length (tableOf φ)) slice ≡ resultOf (textStep desk) text slice)
-        outcome-made l =
-            let f : fits (length (textTable text)) (length slice) ≡ true = rw table-is (fits-true _ _ (omega arith)) in (
-              ap (λ (t : List ℕ). Made (length t)) (sym table-is) ∙ sym (made-answer (textStep desk) text slice passes f),
-              ap (λ (t : List ℕ). t ++ drop (length t) slice) (sym table-is) ∙ sym (made-result (textStep desk) text slice passes f),
-            )
+        pub outcome-short : length slice < length (headed (tableOf φ))
+            → (Refused ResultTooShort ≡ answerOf (textStep desk) text (length slice)) × (replicate (length slice) 0 ≡ resultOf (textStep desk) text slice)
+        outcome-short l = outcome-given refl (record { fit = λ f. absurd (true≢false (sym f ∙ lt-leb (suc (length (tableOf φ))) (min (length slice) 16384) (omega arith))); unfit = λ f. (refl, refl) })
+
+        pub outcome-made : length (headed (tableOf φ)) ≤ length slice
+            → (Made (length (headed (tableOf φ))) ≡ answerOf (textStep desk) text (length slice)) × (headed (tableOf φ) ++ drop (length (headed (tableOf φ))) slice ≡ resultOf (textStep desk) text slice)
+        outcome-made l = outcome-given refl (record { fit = λ f. (refl, refl); unfit = λ f. absurd (true≢false (sym (le-leb (suc (length (tableOf φ))) (min (length slice) 16384) (omega arith)) ∙ f)) })
 
 -- the words that were read, by their count
 module _ {text : List ℕ} {s : draft.State} {r : ℕ} (p : Parsed text s r) (z : r ≡ 0) where
@@ -87,3 +98,26 @@ module _ {text : List ℕ} {s : draft.State} {r : ℕ} (p : Parsed text s r) (z 
 
   pub copied : (n : ℕ) → n ≡ draft.count s → take n (s .out) ≡ tableOf (p .reads z .0)
   copied n e = ap (λ (k : ℕ). take k (s .out)) e ∙ p .reads z .2
+
+-- words copied after the place of their header
+module _ {words : List ℕ} (q : Headable words) (result : List ℕ) {part : List ℕ} (long : length words < length result)
+    (same : length part ≡ length (take (length result - 1) (body result)))
+    (e : part ≡ take (length words) words ++ drop (length words) (take (length result - 1) (body result))) where
+  written : Written words (take (length result - 1) (body result)) part (length words)
+  written = record {
+    unfit = λ z. absurd (omega (arith, some q));
+    fit = λ z. record {
+      fitting = fits-true (length words) _ (omega (arith, few q, length-drop 1 result, length-take-le (length result - 1) (body result) (omega (arith, length-drop 1 result))));
+      long = refl;
+      words = e ∙ ap (λ (l : List ℕ). l ++ drop (length words) (take (length result - 1) (body result))) (take-all (length words) words (omega arith));
+    };
+  }
+
+  lent : length result - 1 ≡ min (length (body result)) (length words + length (body result))
+  lent = omega (arith, length-drop 1 result)
+
+  pub copied-finishable : Finishable (putMid 1 (length result - 1) result part) (length words)
+  copied-finishable = lent-finishable words result (omega arith) (length words + length (body result)) (omega arith) lent same written (λ z. q)
+
+  pub copied-given : {m : List ℕ} {r : Answer} → Finished (putMid 1 (length result - 1) result part) (length words) m r → Given (headed words) result m r
+  copied-given = lent-given words result (omega arith) (length words + length (body result)) (omega arith) lent same written

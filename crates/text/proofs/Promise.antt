@@ -2,21 +2,23 @@
 -- table that is made passes the checks of the plain-form step.
 use Prim.Native.Nat.{ℕ, _≤_, _<_}
 use native.Mathlib.Omega.{arith}
-use mathlib.Core.Path.{_≡_, refl, sym, ap, ap₂, _∙_, subst₂}
+use mathlib.Core.Path.{_≡_, refl, ap, subst₂}
 use mathlib.Core.Logic.{_↔_, ⊎-elim}
 use mathlib.Core.Bool.{false}
 use mathlib.Core.List.{List, _++_}
 use mathlib.Core.Option.{Option, none, some}
-use lib.ListN.{length, drop, replicate}
+use lib.ListN.{length, drop}
 use Rattle.logic.specs.Formula.{Formula}
 use Rattle.logic.proofs.Numbers.{lt-or-le}
-use Rattle.refusals.specs.declared.Refusal.the-variants.{TooManyWords, ResultTooShort, NotGrammar, TextTooLong}
+use Rattle.refusals.specs.declared.Refusal.the-variants.{NotGrammar}
 use Rattle.refusals.specs.declared.Outcome.the-variants.{Accepted}
 use Rattle.table.specs.declared.answer.Answer.{Answer}
 use Rattle.table.specs.declared.answer.Answer.the-variants.{Made, Refused}
 use Rattle.table.specs.Limits.{desk}
 use Rattle.table.specs.Checks.{checked}
 use Rattle.table.specs.Numbering.{tableOf}
+use Rattle.table.specs.Header.{headed, headedChecked}
+use Rattle.table.proofs.Header.{headed-accepted}
 use Rattle.table.specs.Frame.{answerOf, resultOf}
 use Rattle.logic.specs.Letters.{Letters}
 use Rattle.numbering.proofs.Accepted.{accepted-written}
@@ -44,7 +46,7 @@ module _ (text slice : List ℕ) where
         ⊎-elim
         (λ l. both (too-short φ short (sound text φ e) h l) (outcome-short text slice short φ e h l))
         (λ l. both (table φ short (sound text φ e) h l) (outcome-made text slice short φ e h l))
-        (lt-or-le (length slice) (length (tableOf φ)))
+        (lt-or-le (length slice) (length (headed (tableOf φ))))
 
     by-reading : (o : Option Formula) → readingOf text ≡ o → Reply text slice (answerOf (textStep desk) text (length slice)) (resultOf (textStep desk) text slice)
     by-reading none e = both (departing (departureOf text) short (departs text e)) (outcome-departs text slice short (departureOf text) (e, refl))
@@ -88,7 +90,7 @@ one-reply (table φ h r g i) (too-many ψ l q k) = absurd (omega (arith, same-le
 one-reply (table φ h r g i) (too-short ψ l q k j) = absurd (omega (arith, same-length r q))
 one-reply {slice = slice} (table φ h r g i) (table ψ l q k j) =
     let e = one-reading r q in
-    (ap (λ (χ : Formula). Made (length (tableOf χ))) e, ap (λ (χ : Formula). tableOf χ ++ drop (length (tableOf χ)) slice) e)
+    (ap (λ (χ : Formula). Made (length (headed (tableOf χ)))) e, ap (λ (χ : Formula). headed (tableOf χ) ++ drop (length (headed (tableOf χ))) slice) e)
 
 -- a rule's letters are 1 to 32, so its table passes the checks of the plain-form step
 rule-letters : {xs : List Symbol} {φ : Formula} → Rule xs φ → Letters (λ p. (0 < p) × (p ≤ 32)) φ
@@ -97,5 +99,9 @@ rule-letters (letter-rule n h k) = (h, k)
 rule-letters (prefixed o r) = rule-letters r
 rule-letters (bracketed o r q) = (rule-letters r, rule-letters q)
 
-pub text-accepted : {text : List ℕ} {φ : Formula} → Reads text φ → (limit : ℕ) → length (tableOf φ) ≤ limit → limit ≤ 16383 → checked false limit (tableOf φ) ≡ Accepted
-text-accepted {φ = φ} r limit = accepted-written limit φ (rule-letters (r .rule))
+pub text-words-accepted : {text : List ℕ} {φ : Formula} → Reads text φ → (limit : ℕ) → length (tableOf φ) ≤ limit → limit ≤ 16383 → checked false limit (tableOf φ) ≡ Accepted
+text-words-accepted {φ = φ} r limit = accepted-written limit φ (rule-letters (r .rule))
+
+pub text-accepted : {text : List ℕ} {φ : Formula} → Reads text φ → (limit : ℕ) → length (tableOf φ) ≤ limit → limit ≤ 16383
+    → headedChecked false limit (headed (tableOf φ)) ≡ Accepted
+text-accepted {φ = φ} r limit few small = headed-accepted false limit (tableOf φ) small (text-words-accepted r limit few small)

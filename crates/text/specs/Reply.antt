@@ -7,13 +7,14 @@ use Rattle.refusals.specs.declared.Refusal.the-variants.{TooManyWords, ResultTo
 use Rattle.table.specs.declared.answer.Answer.{Answer}
 use Rattle.table.specs.declared.answer.Answer.the-variants.{Made, Refused}
 use Rattle.table.specs.Numbering.{tableOf}
+use Rattle.table.specs.Header.{headed}
 use Rattle.grammar.specs.Grammar.{Reads, Departs}
 
 pub data Reply (text slice : List ℕ) : Answer → List ℕ → Type 0 where
   too-long : 1024 < length text → Reply text slice (Refused TextTooLong) slice
   departing : (n : ℕ) → length text ≤ 1024 → Departs text n → Reply text slice (Refused (NotGrammar n)) slice
   too-many : (φ : Formula) → length text ≤ 1024 → Reads text φ → 64 < length (tableOf φ) → Reply text slice (Refused TooManyWords) slice
-  too-short : (φ : Formula) → length text ≤ 1024 → Reads text φ → length (tableOf φ) ≤ 64 → length slice < length (tableOf φ)
+  too-short : (φ : Formula) → length text ≤ 1024 → Reads text φ → length (tableOf φ) ≤ 64 → length slice < length (headed (tableOf φ))
       → Reply text slice (Refused ResultTooShort) (replicate (length slice) 0)
-  table : (φ : Formula) → length text ≤ 1024 → Reads text φ → length (tableOf φ) ≤ 64 → length (tableOf φ) ≤ length slice
-      → Reply text slice (Made (length (tableOf φ))) (tableOf φ ++ drop (length (tableOf φ)) slice)
+  table : (φ : Formula) → length text ≤ 1024 → Reads text φ → length (tableOf φ) ≤ 64 → length (headed (tableOf φ)) ≤ length slice
+      → Reply text slice (Made (length (headed (tableOf φ)))) (headed (tableOf φ) ++ drop (length (headed (tableOf φ))) slice)

@@ -9,6 +9,7 @@ use Rattle.refusals.specs.declared.Refusal.the-variants.{TooManyWords, NotGramm
 use Rattle.table.specs.declared.limits.Limits.{Limits}
 use Rattle.refusals.specs.Refusals.{_⇒_}
 use Rattle.table.specs.Numbering.{tableOf}
+use Rattle.table.specs.Header.{headed}
 use Rattle.table.specs.Frame.{Step}
 use Rattle.grammar.specs.Reader.{isNone, readingOf, departureOf}
 use Rattle.parsing.specs.Parsed.{mostBytes}
@@ -17,7 +18,7 @@ abbrev pub tableBy : Option Formula → List ℕ
 tableBy none = []
 tableBy (some φ) = tableOf φ
 
--- the table of the formula that a text is related to
+-- the words of the formula that a text is related to
 unfoldable pub textTable : List ℕ → List ℕ
 textTable text = tableBy (readingOf text)
 
@@ -29,5 +30,5 @@ textStep l = record {
       ∷ (isNone (readingOf text) ⇒ NotGrammar (departureOf text))
       ∷ (ltb (l .written) (length (textTable text)) ⇒ TooManyWords)
       ∷ [];
-  makes = textTable;
+  makes = λ text. headed (textTable text);
 }

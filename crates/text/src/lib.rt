@@ -7,6 +7,9 @@ ghost use mathlib.Core.List.{_++_};
 ghost use Prim.Native.Nat.{_≤_};
 ghost use lib.ListN.{length, take, drop};
 ghost use Rattle.table.specs.Limits.{desk};
+ghost use Rattle.table.specs.Header.{headed};
+ghost use Rattle.headers.specs.Headable.{Headable};
+ghost use Rattle.heading.specs.Finished.{Given};
 ghost use Rattle.table.specs.Frame.{answerOf, resultOf};
 ghost use Rattle.text.specs.Text.{textStep};
 
@@ -41,10 +44,18 @@ pub fn read(text: &[u8], result: &mut [u32]) -> Answer
     if 64 < n {
         return Answer::Refused(Refusal::TooManyWords);
     }
-    if result.len() < n {
-        clearing::words(result);
-        return Answer::Refused(Refusal::ResultTooShort);
+    answer(&out[..n], result)
+}
+
+// Words under their header.
+fn answer(words: &[u32], result: &mut [u32]) -> Answer
+    requires { ⌜ Headable (now words) ⌝ }
+    ensures { λ r. ⌜ Given (headed (now (words .entry))) (now (result .entry)) (now (result .exit)) r ⌝ }
+{
+    let n = words.len();
+    if result.len() <= n {
+        return heading::finish(result, 0);
     }
-    copy(&out, result, n);
-    Answer::Made(n)
+    copy(words, &mut result[1..], n);
+    heading::finish(result, n)
 }

@@ -2,31 +2,49 @@
 use crate::generate::with_table;
 use crate::input::Input;
 use crate::numbers::Numbers;
-use reference::edges::{chain_of, chain_of_ands, chain_of_next, long_forms, nested};
+use reference::edges::{chain_of, chain_of_ands, chain_of_next, headed, long_forms, nested};
 use reference::rules::rules;
 use reference::texts::texts;
 
 pub fn inputs() -> Vec<Input> {
-    let mut tables: Vec<Vec<u32>> = rules().into_iter().map(|(_, table)| table).collect();
+    // words, which get their header
+    let mut tables: Vec<Vec<u32>> = rules().into_iter().map(|(_, words)| words).collect();
     tables.extend([0, 1, 63, 64, 65, 129, 130, 131, 16_383, 16_384].map(chain_of_next));
     tables.extend([59, 60, 61].map(chain_of_ands));
     tables.extend((1..=10).flat_map(|k| [8, 9, 10, 11].map(|kind| chain_of(kind, k))));
     // conversions as long as any slice counts for, and longer
     tables.extend([8_190, 8_191].into_iter().flat_map(|k| [9, 11].map(|kind| chain_of(kind, k))));
-    tables.extend(long_forms().into_iter().map(|(_, table)| table));
+    tables.extend(long_forms().into_iter().map(|(_, words)| words));
     let mut inputs = Vec::new();
-    for (n, table) in (0..).zip(tables) {
+    for (n, table) in (0..).zip(tables.iter().map(|words| headed(words)).chain(headers())) {
         // several rooms and recordings each
         for again in 0..if table.len() > 1000 { 2 } else { 6 } {
             inputs.push(with_table(&mut Numbers::new(7, n * 10 + again), table.clone()));
         }
     }
-    inputs.extend((0..).zip(nested(3)).map(|(n, (_, table))| with_table(&mut Numbers::new(8, n), table)));
+    inputs.extend((0..).zip(nested(3)).map(|(n, (_, words))| with_table(&mut Numbers::new(8, n), headed(&words))));
     for (n, (_, text)) in (0..).zip(texts()) {
-        for text_table in [0, 1, 2, 10, 20, 63, 64, 65, 70] {
-            let of_table = with_table(&mut Numbers::new(9, n), vec![0x3000_0001]);
+        for text_table in [0, 1, 2, 10, 20, 63, 64, 65, 66, 70] {
+            let of_table = with_table(&mut Numbers::new(9, n), headed(&[0x3000_0001]));
             inputs.push(Input { text: text.clone(), text_table, ..of_table });
         }
     }
     inputs
+}
+
+/// An empty slice; headers alone; every bit of a right header the other way; counts beside lengths at the limits.
+fn headers() -> Vec<Vec<u32>> {
+    let mut tables = vec![vec![]];
+    tables.extend([0, 1, 64, 65, 130, 131, 16_383, 0x001F_C001, 0x1000_0001, u32::MAX].map(|header| vec![header]));
+    for words in [vec![0x3000_0001], vec![0x3000_0001, 0xE000_0001], chain_of(9, 3), chain_of(8, 9), vec![0]] {
+        let table = headed(&words);
+        let other = |bit: u32| [&[table[0] ^ 1 << bit], &words[..]].concat();
+        tables.extend((0..32).map(other));
+        tables.extend((0..table.len()).map(|length| table[..length].to_vec()));
+        tables.push(words);
+    }
+    for count in [1, 63, 64, 65, 129, 130, 131, 16_383] {
+        tables.extend([count - 1, count + 1].map(|words| [vec![0x001F_8000 + count as u32], chain_of_next(words)].concat()));
+    }
+    tables
 }

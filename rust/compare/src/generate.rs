@@ -1,49 +1,76 @@
-//! Random inputs: valid tables in any word order, tables damaged by a bit or a word, too long and too short ones, and rooms at and
-//! around what the results need.
+//! Random inputs: valid tables in any word order, tables damaged by a bit or a word, too long and too short ones, damaged headers, and
+//! rooms at and around what the results need.
 use crate::input::Input;
 use crate::library::Reference;
 use crate::numbers::Numbers;
 use crate::texts;
+use reference::edges::headed;
+use reference::header::words;
 use reference::steps;
 use reference::word::{Word, MOST_WORDS};
 use std::collections::HashSet;
 
 pub fn input(numbers: &mut Numbers) -> Input {
-    let mut table = table(numbers);
+    let mut words = table_words(numbers);
     if numbers.below(3) == 0 {
-        damage(numbers, &mut table);
+        damage(numbers, &mut words);
+    }
+    let mut table = headed(&words);
+    if numbers.once_in(8) {
+        damage_header(numbers, &mut table);
     }
     with_table(numbers, table)
 }
 
-/// An input with this table: a text, a recording, a tally and rooms for them.
+/// A header that is not that of the words after it, or none, or a table that is cut or added to.
+fn damage_header(numbers: &mut Numbers, table: &mut Vec<u32>) {
+    let count = table[0] & 0x3FFF;
+    let class = numbers.one_of(&[0, 0x40, 0x50, 0x60, 0x7A, 0x7C, 0x7E, 0x7F, 0xFF]);
+    match numbers.below(16) {
+        0 => table[0] = 0,
+        1 => table.clear(),
+        2 => table.truncate(1),
+        3 => drop(table.remove(0)),
+        4 => drop(table.pop()),
+        5 => table.push(numbers.one_of(&[0, 0x3000_0001, 0x7000_0001])),
+        6 => table[0] = table[0] & !0x3FFF | numbers.one_of(&[0, 1, 63, 64, 65, 129, 130, 131, 16_382, 16_383]),
+        7 => table[0] = table[0] & !0x3FFF | (count + 1) & 0x3FFF,
+        8 => table[0] = table[0] & !0x3FFF | count.wrapping_sub(1) & 0x3FFF,
+        9 | 10 => table[0] = table[0] & !0x0FFF_C000 | class << 14,
+        11 => table[0] ^= 1 << numbers.between(14, 27),
+        12 => table[0] ^= 1 << numbers.between(28, 31),
+        13 => table[0] = table[0] & 0x0FFF_FFFF | (numbers.below(16) as u32) << 28,
+        14 => table[0] = numbers.next() as u32,
+        _ => table[0] ^= 1 << numbers.below(32),
+    }
+}
+
+/// An input with this table, under its header: a text, a recording, a tally and rooms for them.
 pub fn with_table(numbers: &mut Numbers, table: Vec<u32>) -> Input {
     let reference = Reference::default();
-    let plain = reference.plain_form(&table).unwrap_or_default();
-    let normal = reference.normal_form(&table).map_or(0, |form| form.len());
-    let plain_bits: Vec<u32> = plain.iter().map(|w| w.bits()).collect();
-    let form = reference.normal_form(&plain_bits).map_or(0, |form| form.len());
-    let dialect = steps::dialect_table(&table).map_or(0, |words| words.len());
-    let samples = samples(numbers, table.len());
-    let rows = table.len() * samples.len().div_ceil(64);
+    // lengths count the header; where nothing is made, there is none
+    let plain_bits: Vec<u32> = reference.plain_words(&table).unwrap_or_default().iter().map(|w| w.bits()).collect();
+    let plain = if plain_bits.is_empty() { 0 } else { 1 + plain_bits.len() };
+    let normal = reference.normal_words(&table).map_or(0, |form| 1 + form.len());
+    let form = reference.normal_words(&headed(&plain_bits)).map_or(0, |form| 1 + form.len());
+    let dialect = steps::dialect_words(&table).map_or(0, |made| 1 + made.len());
+    let count = words(&table).len();
+    let samples = samples(numbers, count);
+    let rows = count * samples.len().div_ceil(64);
     let (judged, held) = tally(numbers);
     let input = Input {
         text: vec![],
         text_table: 0,
         plain_only: numbers.once_in(2),
-        limit: if numbers.once_in(3) {
-            room(numbers, table.len())
-        } else {
-            numbers.one_of(&[0, 64, 130, 16_383, 16_384, usize::MAX])
-        },
-        bytes: room(numbers, table.len()),
-        plain: room(numbers, plain.len()),
+        limit: if numbers.once_in(3) { room(numbers, count) } else { numbers.one_of(&[0, 64, 130, 16_383, 16_384, usize::MAX]) },
+        bytes: room(numbers, count),
+        plain: room(numbers, plain),
         normal: room(numbers, normal),
         dialect: room(numbers, dialect),
-        form_plain: if numbers.once_in(6) { room(numbers, plain.len()) } else { 130 },
+        form_plain: if numbers.once_in(6) { room(numbers, plain) } else { 131 },
         form: room(numbers, form),
         start: start(numbers, samples.len()),
-        driven: driven(numbers, &table),
+        driven: driven(numbers, words(&table)),
         undriven: numbers.next() as u32,
         samples,
         scratch: room(numbers, rows),
@@ -52,7 +79,7 @@ pub fn with_table(numbers: &mut Numbers, table: Vec<u32>) -> Input {
         table,
     };
     let text = texts::text(numbers, &input.table);
-    let text_table = room(numbers, steps::text_table(&text).map_or(20, |words| words.len()));
+    let text_table = room(numbers, steps::text_words(&text).map_or(20, |words| 1 + words.len()));
     Input { text, text_table, ..input }
 }
 
@@ -68,8 +95,8 @@ fn room(numbers: &mut Numbers, long: usize) -> usize {
     }
 }
 
-/// A written or a plain table that passes the checks, unless it is over a limit.
-fn table(numbers: &mut Numbers) -> Vec<u32> {
+/// The words of a written or a plain table that passes the checks, unless it is over a limit.
+fn table_words(numbers: &mut Numbers) -> Vec<u32> {
     let size = match numbers.below(1000) {
         0..=599 => numbers.between(1, 12),
         600..=899 => numbers.between(8, 40),
@@ -199,24 +226,24 @@ fn reordered(numbers: &mut Numbers, words: &[Word]) -> Vec<u32> {
     order.into_iter().map(|n| if words[n - 1].operands().is_empty() { words[n - 1].bits() } else { bits(words[n - 1]) }).collect()
 }
 
-/// A table damaged in one way, or in two.
-fn damage(numbers: &mut Numbers, table: &mut Vec<u32>) {
+/// Words damaged in one way, or in two.
+fn damage(numbers: &mut Numbers, words: &mut Vec<u32>) {
     loop {
-        let at = numbers.below(table.len().max(1));
+        let at = numbers.below(words.len().max(1));
         match numbers.below(10) {
-            0..=2 if !table.is_empty() => table[at] ^= 1 << numbers.below(32),
-            3 if !table.is_empty() => table[at] = numbers.next() as u32,
-            4 if !table.is_empty() => table[at] = table[numbers.below(table.len())],
-            5 if !table.is_empty() => {
-                table[at] = numbers.one_of(&[0, 0x7000_0000, 0x3000_0000, 0x3000_0021, 0x3000_0020, 0x5000_0001, 0xC000_4001])
+            0..=2 if !words.is_empty() => words[at] ^= 1 << numbers.below(32),
+            3 if !words.is_empty() => words[at] = numbers.next() as u32,
+            4 if !words.is_empty() => words[at] = words[numbers.below(words.len())],
+            5 if !words.is_empty() => {
+                words[at] = numbers.one_of(&[0, 0x7000_0000, 0x3000_0000, 0x3000_0021, 0x3000_0020, 0x5000_0001, 0xC000_4001])
             }
-            6 if !table.is_empty() => drop(table.remove(at)),
-            7 => table.insert(at, numbers.next() as u32 % 0xFFFF + (numbers.below(16) as u32) * 0x1000_0000),
-            8 => table.truncate(at),
+            6 if !words.is_empty() => drop(words.remove(at)),
+            7 => words.insert(at, numbers.next() as u32 % 0xFFFF + (numbers.below(16) as u32) * 0x1000_0000),
+            8 => words.truncate(at),
             _ => {
-                let other = numbers.below(table.len().max(1));
-                if !table.is_empty() {
-                    table.swap(at, other);
+                let other = numbers.below(words.len().max(1));
+                if !words.is_empty() {
+                    words.swap(at, other);
                 }
             }
         }
@@ -251,9 +278,9 @@ fn start(numbers: &mut Numbers, samples: usize) -> usize {
     }
 }
 
-/// Mostly as many letters as the table names or more; else one too few, over 32, or any number.
-fn driven(numbers: &mut Numbers, table: &[u32]) -> usize {
-    let letters = table.iter().map(|&bits| Word::of(bits)).filter(|word| matches!(word.kind, 3 | 4)).map(|word| word.right);
+/// Mostly as many letters as the words name or more; else one too few, over 32, or any number.
+fn driven(numbers: &mut Numbers, words: &[u32]) -> usize {
+    let letters = words.iter().map(|&bits| Word::of(bits)).filter(|word| matches!(word.kind, 3 | 4)).map(|word| word.right);
     let highest = letters.filter(|&letter| letter <= 32).max().unwrap_or(0);
     match numbers.below(16) {
         0 | 1 => highest.saturating_sub(1),

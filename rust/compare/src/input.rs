@@ -1,4 +1,5 @@
 //! One input of every step: a text, a table, a recording, a tally, and the rooms of the slices that are lent.
+use reference::header::words;
 use reference::recording::Recording;
 use std::fmt;
 
@@ -7,6 +8,7 @@ pub struct Input {
     /// Of reading a text, which has nothing to do with the table.
     pub text: Vec<u8>,
     pub text_table: usize,
+    /// With its header, or what stands in its place.
     pub table: Vec<u32>,
     /// Of the check by itself.
     pub plain_only: bool,
@@ -46,15 +48,17 @@ impl Input {
     pub fn size(&self) -> (usize, usize, usize, u64) {
         let rooms = self.text_table + self.bytes + self.plain + self.normal + self.dialect;
         let rooms = rooms + self.form_plain + self.form + self.scratch;
-        let words: u64 = self.table.iter().map(|&w| w as u64).sum::<u64>() + self.text.iter().map(|&b| b as u64).sum::<u64>();
+        let numbers =
+            words(&self.table).iter().map(|&w| w as u64).sum::<u64>() + self.text.iter().map(|&b| b as u64).sum::<u64>();
         let rest = self.start as u64
             + self.driven.min(1 << 40) as u64
             + self.judged as u64
             + self.held as u64
             + self.limit.min(1 << 40) as u64
             + self.plain_only as u64;
-        let bits: u64 = self.samples.iter().chain([&self.undriven]).map(|s| s.count_ones() as u64).sum();
-        (self.text.len() + self.table.len() + self.samples.len(), self.table.len(), rooms, words + rest + bits)
+        let bits = self.samples.iter().chain([&self.undriven]).chain(self.table.first());
+        let bits: u64 = bits.map(|s| s.count_ones() as u64).sum();
+        (self.text.len() + self.table.len() + self.samples.len(), self.table.len(), rooms, numbers + rest + bits)
     }
 }
 
@@ -62,7 +66,7 @@ impl fmt::Display for Input {
     fn fmt(&self, f: &mut fmt::Formatter) -> fmt::Result {
         let hex = |words: &[u32]| words.iter().map(|w| format!(" {w:08X}")).collect::<String>();
         writeln!(f, "text of {} bytes: \"{}\", room {}", self.text.len(), self.text.escape_ascii(), self.text_table)?;
-        writeln!(f, "table of {} words:{}", self.table.len(), hex(&self.table))?;
+        writeln!(f, "table, {} words with its header:{}", self.table.len(), hex(&self.table))?;
         writeln!(f, "check: plain only {}, limit {}", self.plain_only, self.limit)?;
         writeln!(
             f,

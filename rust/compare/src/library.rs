@@ -20,11 +20,11 @@ pub struct Lent {
 pub trait Library {
     fn check(&self, table: &[u32], plain: bool, limit: usize, place: &mut usize) -> u32;
     fn classify(&self, table: &[u32], bytes: &mut [u8], place: &mut usize) -> u32;
-    fn text(&self, text: &[u8], result: &mut [u32], words: &mut usize, place: &mut usize) -> u32;
-    fn plain(&self, table: &[u32], result: &mut [u32], words: &mut usize, place: &mut usize) -> u32;
-    fn normal(&self, table: &[u32], result: &mut [u32], words: &mut usize, place: &mut usize) -> u32;
-    fn dialect(&self, table: &[u32], result: &mut [u32], words: &mut usize, place: &mut usize) -> u32;
-    fn form(&self, table: &[u32], plain: &mut [u32], result: &mut [u32], words: &mut usize, place: &mut usize) -> u32;
+    fn text(&self, text: &[u8], result: &mut [u32], length: &mut usize, place: &mut usize) -> u32;
+    fn plain(&self, table: &[u32], result: &mut [u32], length: &mut usize, place: &mut usize) -> u32;
+    fn normal(&self, table: &[u32], result: &mut [u32], length: &mut usize, place: &mut usize) -> u32;
+    fn dialect(&self, table: &[u32], result: &mut [u32], length: &mut usize, place: &mut usize) -> u32;
+    fn form(&self, table: &[u32], plain: &mut [u32], result: &mut [u32], length: &mut usize, place: &mut usize) -> u32;
     fn judge(&self, table: &[u32], recording: Recording, scratch: &mut [u64], lent: &mut Lent, place: &mut usize) -> u32;
     fn row(
         &self,
@@ -48,25 +48,25 @@ impl Library for Product {
         unsafe { ffi::showrule_classify(table.as_ptr(), table.len(), bytes.as_mut_ptr(), bytes.len(), place) }
     }
 
-    fn text(&self, text: &[u8], result: &mut [u32], words: &mut usize, place: &mut usize) -> u32 {
-        unsafe { ffi::showrule_text(text.as_ptr(), text.len(), result.as_mut_ptr(), result.len(), words, place) }
+    fn text(&self, text: &[u8], result: &mut [u32], length: &mut usize, place: &mut usize) -> u32 {
+        unsafe { ffi::showrule_text(text.as_ptr(), text.len(), result.as_mut_ptr(), result.len(), length, place) }
     }
 
-    fn plain(&self, table: &[u32], result: &mut [u32], words: &mut usize, place: &mut usize) -> u32 {
-        unsafe { ffi::showrule_plain(table.as_ptr(), table.len(), result.as_mut_ptr(), result.len(), words, place) }
+    fn plain(&self, table: &[u32], result: &mut [u32], length: &mut usize, place: &mut usize) -> u32 {
+        unsafe { ffi::showrule_plain(table.as_ptr(), table.len(), result.as_mut_ptr(), result.len(), length, place) }
     }
 
-    fn normal(&self, table: &[u32], result: &mut [u32], words: &mut usize, place: &mut usize) -> u32 {
-        unsafe { ffi::showrule_normal(table.as_ptr(), table.len(), result.as_mut_ptr(), result.len(), words, place) }
+    fn normal(&self, table: &[u32], result: &mut [u32], length: &mut usize, place: &mut usize) -> u32 {
+        unsafe { ffi::showrule_normal(table.as_ptr(), table.len(), result.as_mut_ptr(), result.len(), length, place) }
     }
 
-    fn dialect(&self, table: &[u32], result: &mut [u32], words: &mut usize, place: &mut usize) -> u32 {
-        unsafe { ffi::showrule_dialect(table.as_ptr(), table.len(), result.as_mut_ptr(), result.len(), words, place) }
+    fn dialect(&self, table: &[u32], result: &mut [u32], length: &mut usize, place: &mut usize) -> u32 {
+        unsafe { ffi::showrule_dialect(table.as_ptr(), table.len(), result.as_mut_ptr(), result.len(), length, place) }
     }
 
-    fn form(&self, table: &[u32], plain: &mut [u32], result: &mut [u32], words: &mut usize, place: &mut usize) -> u32 {
+    fn form(&self, table: &[u32], plain: &mut [u32], result: &mut [u32], length: &mut usize, place: &mut usize) -> u32 {
         let (p, r) = (plain.as_mut_ptr(), result.as_mut_ptr());
-        unsafe { ffi::showrule_form(table.as_ptr(), table.len(), p, plain.len(), r, result.len(), words, place) }
+        unsafe { ffi::showrule_form(table.as_ptr(), table.len(), p, plain.len(), r, result.len(), length, place) }
     }
 
     fn judge(&self, table: &[u32], recording: Recording, scratch: &mut [u64], lent: &mut Lent, place: &mut usize) -> u32 {
@@ -108,7 +108,7 @@ impl Library for Product {
 
 type Forms = RefCell<HashMap<Vec<u32>, Result<Vec<Word>, Refusal>>>;
 
-/// The reference. A form is made once an input, whatever slices it is written to.
+/// The reference. The words of a form are made once an input, whatever slices it is written to.
 #[derive(Default)]
 pub struct Reference {
     plain: Forms,
@@ -116,12 +116,12 @@ pub struct Reference {
 }
 
 impl Reference {
-    pub fn plain_form(&self, table: &[u32]) -> Result<Vec<Word>, Refusal> {
-        self.plain.borrow_mut().entry(table.to_vec()).or_insert_with(|| steps::plain_form(table)).clone()
+    pub fn plain_words(&self, table: &[u32]) -> Result<Vec<Word>, Refusal> {
+        self.plain.borrow_mut().entry(table.to_vec()).or_insert_with(|| steps::plain_words(table)).clone()
     }
 
-    pub fn normal_form(&self, table: &[u32]) -> Result<Vec<Word>, Refusal> {
-        self.normal.borrow_mut().entry(table.to_vec()).or_insert_with(|| steps::normal_form(table)).clone()
+    pub fn normal_words(&self, table: &[u32]) -> Result<Vec<Word>, Refusal> {
+        self.normal.borrow_mut().entry(table.to_vec()).or_insert_with(|| steps::normal_words(table)).clone()
     }
 }
 
@@ -139,9 +139,9 @@ fn told<T>(answer: Result<T, Refusal>, place: &mut usize) -> (u32, Option<T>) {
     }
 }
 
-fn words_told(answer: Result<usize, Refusal>, words: &mut usize, place: &mut usize) -> u32 {
+fn length_told(answer: Result<usize, Refusal>, length: &mut usize, place: &mut usize) -> u32 {
     let (number, made) = told(answer, place);
-    *words = made.unwrap_or(0);
+    *length = made.unwrap_or(0);
     number
 }
 
@@ -154,25 +154,25 @@ impl Library for Reference {
         told(steps::classify(table, bytes), place).0
     }
 
-    fn text(&self, text: &[u8], result: &mut [u32], words: &mut usize, place: &mut usize) -> u32 {
-        words_told(steps::text(text, result), words, place)
+    fn text(&self, text: &[u8], result: &mut [u32], length: &mut usize, place: &mut usize) -> u32 {
+        length_told(steps::text(text, result), length, place)
     }
 
-    fn plain(&self, table: &[u32], result: &mut [u32], words: &mut usize, place: &mut usize) -> u32 {
-        words_told(steps::write(self.plain_form(table), result), words, place)
+    fn plain(&self, table: &[u32], result: &mut [u32], length: &mut usize, place: &mut usize) -> u32 {
+        length_told(steps::write(self.plain_words(table), result), length, place)
     }
 
-    fn normal(&self, table: &[u32], result: &mut [u32], words: &mut usize, place: &mut usize) -> u32 {
-        words_told(steps::write(self.normal_form(table), result), words, place)
+    fn normal(&self, table: &[u32], result: &mut [u32], length: &mut usize, place: &mut usize) -> u32 {
+        length_told(steps::write(self.normal_words(table), result), length, place)
     }
 
-    fn dialect(&self, table: &[u32], result: &mut [u32], words: &mut usize, place: &mut usize) -> u32 {
-        words_told(steps::dialect(table, result), words, place)
+    fn dialect(&self, table: &[u32], result: &mut [u32], length: &mut usize, place: &mut usize) -> u32 {
+        length_told(steps::dialect(table, result), length, place)
     }
 
-    fn form(&self, table: &[u32], plain: &mut [u32], result: &mut [u32], words: &mut usize, place: &mut usize) -> u32 {
-        let made = steps::write(self.plain_form(table), plain);
-        words_told(made.and_then(|n| steps::write(self.normal_form(&plain[..n]), result)), words, place)
+    fn form(&self, table: &[u32], plain: &mut [u32], result: &mut [u32], length: &mut usize, place: &mut usize) -> u32 {
+        let made = steps::write(self.plain_words(table), plain);
+        length_told(made.and_then(|n| steps::write(self.normal_words(&plain[..n]), result)), length, place)
     }
 
     fn judge(&self, table: &[u32], recording: Recording, scratch: &mut [u64], lent: &mut Lent, place: &mut usize) -> u32 {

@@ -2,7 +2,9 @@
 use crate::input::Input;
 use crate::library::{Lent, Library};
 use reference::dialect::convert;
+use reference::edges::headed;
 use reference::forest::{Forest, Tree};
+use reference::header::words as words_of;
 use reference::listing::bits;
 use reference::recording::Recording;
 use reference::steps::check as checked;
@@ -142,12 +144,12 @@ fn row(library: &dyn Library, input: &Input, step: &'static str, recording: Reco
 
 /// Demand 3, tried: whether the library's form of the rule holds where the rule does, and is in Delta-2, by its own judge and classes.
 fn agreement(library: &dyn Library, input: &Input) -> Seen {
-    let (mut plain, mut result) = (vec![0; 130], vec![0; 16_383]);
+    let (mut plain, mut result) = (vec![0; 131], vec![0; 16_384]);
     let (mut made, mut place) = (0, 0);
     let mut lent = AGREED.to_vec();
     let form_made = library.form(&input.table, &mut plain, &mut result, &mut made, &mut place) == 0;
     if form_made && (1..=4_096).contains(&input.samples.len()) && made * input.samples.len() < 400_000 {
-        let class = classes(library, &result[..made])[made - 1];
+        let class = *classes(library, &result[..made]).last().expect("a form has a word");
         lent = vec![same_truth(library, input, &result[..made]) as u64, (class >> 6 & 1).into()];
     }
     Seen { step: AGREEMENT, number: 0, lent, memory: vec![] }
@@ -157,9 +159,9 @@ fn agreement(library: &dyn Library, input: &Input) -> Seen {
 /// input's count is below.
 fn same_truth(library: &dyn Library, input: &Input, other: &[u32]) -> bool {
     let (samples, start) = (&input.samples, input.start % input.samples.len());
-    let driven = input.driven.min(32).max(highest_letter(&input.table));
+    let driven = input.driven.min(32).max(highest_letter(words_of(&input.table)));
     let of = |table: &[u32]| {
-        let mut scratch = vec![0; table.len() * samples.len().div_ceil(64)];
+        let mut scratch = vec![0; words_of(table).len() * samples.len().div_ceil(64)];
         let (mut from, mut long, mut place) = (0, 0, 0);
         let recording = Recording { samples, start, driven };
         let number = library.row(table, recording, &mut scratch, &mut from, &mut long, &mut place);
@@ -170,7 +172,7 @@ fn same_truth(library: &dyn Library, input: &Input, other: &[u32]) -> bool {
 }
 
 fn classes(library: &dyn Library, table: &[u32]) -> Vec<u8> {
-    let mut bytes = vec![0; table.len()];
+    let mut bytes = vec![0; words_of(table).len()];
     library.classify(table, &mut bytes, &mut 0);
     bytes
 }
@@ -190,7 +192,7 @@ fn conversion(library: &dyn Library, input: &Input) -> Seen {
 }
 
 fn converted(library: &dyn Library, table: &[u32]) -> Option<Vec<u32>> {
-    let mut result = vec![0; MOST_WORDS];
+    let mut result = vec![0; 1 + MOST_WORDS];
     let (mut made, mut place) = (0, 0);
     let number = library.dialect(table, &mut result, &mut made, &mut place);
     result.truncate(made);
@@ -199,17 +201,17 @@ fn converted(library: &dyn Library, table: &[u32]) -> Option<Vec<u32>> {
 
 fn classes_kept(library: &dyn Library, table: &[u32], converted: &[u32]) -> bool {
     let mut forest = Forest::new();
-    let trees = forest.of_table(table);
+    let trees = forest.of_words(words_of(table));
     let conversions = convert(&mut forest, &trees);
-    let made: HashMap<Tree, u8> = forest.of_table(converted).into_iter().zip(classes(library, converted)).collect();
+    let made: HashMap<Tree, u8> = forest.of_words(words_of(converted)).into_iter().zip(classes(library, converted)).collect();
     conversions.iter().zip(classes(library, table)).all(|(tree, byte)| made.get(tree).is_some_and(|made| byte & !made == 0))
 }
 
 const CONVERSION: &str = "conversion free, the same again, of the same classes, and true where the table is";
 const CONVERTED: [u64; 4] = [1, 1, 1, 1];
 
-fn highest_letter(table: &[u32]) -> usize {
-    let letters = table.iter().filter(|&word| matches!(word >> 28, 3 | 4));
+fn highest_letter(words: &[u32]) -> usize {
+    let letters = words.iter().filter(|&word| matches!(word >> 28, 3 | 4));
     letters.map(|word| (word & 0x3FFF) as usize).max().unwrap_or(0)
 }
 
@@ -230,17 +232,17 @@ const REDRIVEN: [&str; 2] = ["judge, other bits above the driven ones", "row, ot
 fn round_trip(library: &dyn Library, input: &Input) -> Seen {
     let table = &input.table;
     let mut lent = CAME_BACK.to_vec();
-    if checked(table, false, 64).is_ok() && shown_bytes(table) <= 1_024 {
+    if checked(table, false, 64).is_ok() && shown_bytes(words_of(table)) <= 1_024 {
         let mut forest = Forest::new();
-        let tree = *forest.of_table(table).last().expect("a word");
+        let tree = *forest.of_words(words_of(table)).last().expect("a word");
         let text = show(&forest, tree);
-        let mut result = vec![0; 64];
+        let mut result = vec![0; 65];
         let (mut made, mut place) = (0, 0);
         let number = library.text(text.as_bytes(), &mut result, &mut made, &mut place);
         let kind_4 = table.iter().any(|word| word >> 28 == 4);
         let read = if number == 2 && kind_4 { table } else { &result[..made] };
         let as_printed = showrule::to_text(table, text.len()) == Ok(text);
-        let back = kind_4 || read == bits(&forest, tree);
+        let back = kind_4 || read == headed(&bits(&forest, tree));
         lent = vec![as_printed as u64, back as u64, (whole_way(library, table) == whole_way(library, read)) as u64];
     }
     Seen { step: ROUND_TRIP, number: 0, lent, memory: vec![] }
@@ -248,7 +250,7 @@ fn round_trip(library: &dyn Library, input: &Input) -> Seen {
 
 /// Number, length, place and words of a table's form.
 fn whole_way(library: &dyn Library, table: &[u32]) -> (u32, usize, usize, Vec<u32>) {
-    let (mut plain, mut result) = (vec![0; 130], vec![0; 16_383]);
+    let (mut plain, mut result) = (vec![0; 131], vec![0; 16_384]);
     let (mut made, mut place) = (0, 0);
     let number = library.form(table, &mut plain, &mut result, &mut made, &mut place);
     (number, made, place, result)

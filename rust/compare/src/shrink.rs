@@ -1,16 +1,45 @@
-//! Makes an input smaller as long as it still differs.
+//! Makes an input smaller as long as it still differs. The table keeps the header of its words where it can.
 use crate::input::Input;
+use reference::edges::headed;
+use reference::header::words;
 use reference::word::Word;
 
 /// The smallest input that single steps of shrinking lead to.
 pub fn smallest(mut input: Input, differs: impl Fn(&Input) -> bool) -> Input {
     loop {
-        let smaller = candidates(&input).into_iter().find(|c| c.size() < input.size() && differs(c));
-        match smaller {
+        let repaired = Input { table: headed(words(&input.table)), ..input.clone() };
+        if !input.table.is_empty() && repaired.table != input.table && differs(&repaired) {
+            input = repaired;
+            continue;
+        }
+        let right = repaired.table == input.table;
+        let smaller = changes(&input).into_iter().map(|change| changed(&input, right, &change));
+        match smaller.filter(|smaller| smaller.size() < input.size()).find(&differs) {
             Some(smaller) => input = smaller,
             None => return input,
         }
     }
+}
+
+type Change = Box<dyn Fn(&mut Input)>;
+
+/// The input after a change of anything but the header, which is that of the words again where it was; else its count is moved by as many
+/// words as are gone.
+fn changed(input: &Input, right: bool, change: &Change) -> Input {
+    let mut smaller = input.clone();
+    change(&mut smaller);
+    let (before, after) = (words(&input.table), words(&smaller.table));
+    if before == after || smaller.table.is_empty() {
+        return smaller;
+    }
+    if right {
+        smaller.table = headed(after);
+    } else {
+        let header = Word::of(smaller.table[0]);
+        let count = header.right.saturating_sub(before.len() - after.len());
+        smaller.table[0] = Word { right: count, ..header }.bits();
+    }
+    smaller
 }
 
 const ROOMS: [fn(&mut Input) -> &mut usize; 8] = [
@@ -24,84 +53,104 @@ const ROOMS: [fn(&mut Input) -> &mut usize; 8] = [
     |i| &mut i.scratch,
 ];
 
-/// Inputs that are smaller in one way, the boldest first.
-fn candidates(input: &Input) -> Vec<Input> {
-    let mut all = Vec::new();
-    let mut with = |change: &dyn Fn(&mut Input)| {
-        let mut smaller = input.clone();
-        change(&mut smaller);
-        all.push(smaller);
-    };
-    let (n, l, b) = (input.table.len(), input.samples.len(), input.text.len());
+/// Changes that make an input smaller in one way, the boldest first.
+fn changes(input: &Input) -> Vec<Change> {
+    let mut all: Vec<Change> = Vec::new();
+    let mut with = |change: Change| all.push(change);
+    let (n, l, b) = (words(&input.table).len(), input.samples.len(), input.text.len());
+    with(Box::new(|i| i.table.clear()));
+    for keep in [0, n / 2, n * 3 / 4] {
+        with(Box::new(move |i| i.table.truncate(1 + keep)));
+    }
+    for keep in [0, l / 2, l * 3 / 4] {
+        with(Box::new(move |i| i.samples.truncate(keep)));
+    }
     // any part of the text left out
     for long in std::iter::successors(Some(b), |long| Some(long / 2)).take_while(|&long| long > 0) {
         for from in (0..=b - long).step_by(long.div_ceil(4)) {
-            with(&|i| drop(i.text.drain(from..from + long)));
+            with(Box::new(move |i| drop(i.text.drain(from..from + long))));
         }
     }
-    for keep in [n / 2, n * 3 / 4] {
-        with(&|i| i.table.truncate(keep));
-    }
-    for keep in [l / 2, l * 3 / 4] {
-        with(&|i| i.samples.truncate(keep));
-    }
-    for j in (0..n).rev().take(300) {
-        with(&|i| i.table = without(&i.table, j, |w| w.right));
-        with(&|i| i.table = without(&i.table, j, |w| w.left));
+    for j in (1..=n).rev().take(300) {
+        with(Box::new(move |i| i.table = used(without(&i.table, j, |w| w.right))));
+        with(Box::new(move |i| i.table = used(without(&i.table, j, |w| w.left))));
+        with(Box::new(move |i| i.table = without(&i.table, j, |w| w.right)));
+        with(Box::new(move |i| i.table = without(&i.table, j, |w| w.left)));
     }
     for j in (0..l).rev().take(300) {
-        with(&|i| {
-            i.samples.remove(j);
-        });
+        with(Box::new(move |i| drop(i.samples.drain(j..=j))));
     }
-    with(&|i| i.start = 0);
-    with(&|i| i.start = i.start.saturating_sub(1));
-    with(&|i| i.driven = 0);
-    with(&|i| i.driven = i.driven.min(33));
-    with(&|i| i.driven = i.driven.saturating_sub(1));
-    with(&|i| i.undriven = 0);
-    with(&|i| i.undriven &= i.undriven.wrapping_sub(1));
+    with(Box::new(|i| i.start = 0));
+    with(Box::new(|i| i.start = i.start.saturating_sub(1)));
+    with(Box::new(|i| i.driven = 0));
+    with(Box::new(|i| i.driven = i.driven.min(33)));
+    with(Box::new(|i| i.driven = i.driven.saturating_sub(1)));
+    with(Box::new(|i| i.undriven = 0));
+    with(Box::new(|i| i.undriven &= i.undriven.wrapping_sub(1)));
     for room in ROOMS {
-        with(&|i| *room(i) = 0);
-        with(&|i| *room(i) /= 2);
-        with(&|i| *room(i) = room(i).saturating_sub(1));
+        with(Box::new(move |i| *room(i) = 0));
+        with(Box::new(move |i| *room(i) /= 2));
+        with(Box::new(move |i| *room(i) = room(i).saturating_sub(1)));
     }
-    with(&|i| (i.judged, i.held) = (0, 0));
-    with(&|i| i.held = 0);
-    with(&|i| i.plain_only = false);
-    with(&|i| i.limit = 64);
+    with(Box::new(|i| (i.judged, i.held) = (0, 0)));
+    with(Box::new(|i| i.held = 0));
+    with(Box::new(|i| i.plain_only = false));
+    with(Box::new(|i| i.limit = 64));
     for j in (0..b).take(300) {
         for simpler in [b' ', b'X', b'1'] {
-            with(&|i| i.text[j] = simpler);
+            with(Box::new(move |i| i.text[j] = simpler));
         }
     }
-    for j in (0..n).take(300) {
+    for j in (1..=n).take(300) {
         for simpler in [0x1000_0000, 0x3000_0001, 0x3000_0002] {
-            with(&|i| i.table[j] = simpler);
+            with(Box::new(move |i| i.table = used(replaced(&i.table, j, simpler))));
+            with(Box::new(move |i| i.table[j] = simpler));
         }
     }
     for j in (0..l).take(300) {
-        with(&|i| i.samples[j] &= i.samples[j].wrapping_sub(1));
+        with(Box::new(move |i| i.samples[j] &= i.samples[j].wrapping_sub(1)));
+    }
+    if !input.table.is_empty() && input.table != headed(words(&input.table)) {
+        // kind 0, class 0, or a bit less
+        with(Box::new(|i| i.table[0] &= 0x0FFF_FFFF));
+        with(Box::new(|i| i.table[0] &= 0xF000_3FFF));
+        with(Box::new(|i| i.table[0] &= i.table[0].wrapping_sub(1)));
     }
     all
 }
 
-/// The table without word j, counted from 0: what used it uses the word's own operand, and later words are numbered one lower.
+/// The table without word j: what used it uses the word's own operand, and later words are numbered one lower. The header stays.
 fn without(table: &[u32], j: usize, instead: impl Fn(Word) -> usize) -> Vec<u32> {
     let gone = instead(Word::of(table[j]));
-    let moved = |field: usize| match field.cmp(&(j + 1)) {
+    let moved = |field: usize| match field.cmp(&j) {
         std::cmp::Ordering::Less => field,
-        std::cmp::Ordering::Equal => gone.min(j),
+        std::cmp::Ordering::Equal => gone.min(j - 1),
         std::cmp::Ordering::Greater => field - 1,
     };
-    let kept = table.iter().enumerate().filter(|&(i, _)| i != j);
-    kept.map(|(_, &bits)| {
+    let kept = words(table).iter().zip(1..).filter(|&(_, n)| n != j);
+    let kept = kept.map(|(&bits, _)| {
         let word = Word::of(bits);
         match word.operands().len() {
             2 => Word::new(word.kind, moved(word.left), moved(word.right)).bits(),
             1 => Word::new(word.kind, word.left, moved(word.right)).bits(),
             _ => bits,
         }
-    })
-    .collect()
+    });
+    [table[0]].into_iter().chain(kept).collect()
+}
+
+fn replaced(table: &[u32], j: usize, word: u32) -> Vec<u32> {
+    let mut table = table.to_vec();
+    table[j] = word;
+    table
+}
+
+/// The table without the words that the last one does not need.
+fn used(mut table: Vec<u32>) -> Vec<u32> {
+    for j in (1..table.len().saturating_sub(1)).rev() {
+        if !table[j + 1..].iter().any(|&bits| Word::of(bits).operands().contains(&j)) {
+            table = without(&table, j, |w| w.right);
+        }
+    }
+    table
 }

@@ -5,6 +5,8 @@ use crate::library::{Lent, Library, Reference};
 use crate::numbers::Numbers;
 use crate::run::compare;
 use crate::smallest_difference;
+use reference::edges::headed;
+use reference::header::{count, words};
 use reference::recording::Recording;
 
 /// The reference with one fault.
@@ -27,6 +29,12 @@ enum Fault {
     UndrivenRead,
     UndrivenCounted,
     NotRenumbered,
+    CountBeforeLimit,
+    ClassUnread,
+    KindUnread,
+    HeaderNumbered,
+    HeaderWithoutClass,
+    HeaderLast,
 }
 
 impl Library for Faulty {
@@ -34,6 +42,16 @@ impl Library for Faulty {
         let number = self.right.check(table, plain, limit, place);
         if self.fault == Fault::PlaceOneLow && number == 10 {
             *place -= 1;
+        }
+        if self.fault == Fault::CountBeforeLimit && number == 2 && count(table) != table.len() - 1 {
+            return 23;
+        }
+        let kind_0 = table.first().is_some_and(|header| header >> 28 == 0);
+        if number == 24 && (self.fault == Fault::ClassUnread && kind_0 || self.fault == Fault::KindUnread && !kind_0) {
+            return 0;
+        }
+        if self.fault == Fault::HeaderNumbered && (3..=10).contains(&number) {
+            *place += 1;
         }
         number
     }
@@ -61,6 +79,12 @@ impl Library for Faulty {
         let number = self.right.plain(table, result, words, place);
         if self.fault == Fault::RefusalUntouched && number == 12 {
             result.copy_from_slice(&before);
+        }
+        if self.fault == Fault::HeaderWithoutClass && number == 0 {
+            result[0] &= 0x3FFF;
+        }
+        if self.fault == Fault::HeaderLast && number == 0 {
+            result[..*words].rotate_left(1);
         }
         number
     }
@@ -97,8 +121,8 @@ impl Library for Faulty {
             lent.held = held;
         }
         if self.fault == Fault::HighestUndriven && number == 21 {
-            let names = |&n: &usize| matches!(table[n - 1] >> 28, 3 | 4) && (table[n - 1] & 0x3FFF) as usize > recording.driven;
-            *place = (1..=table.len()).rev().find(names).unwrap();
+            let names = |&n: &usize| matches!(table[n] >> 28, 3 | 4) && (table[n] & 0x3FFF) as usize > recording.driven;
+            *place = (1..table.len()).rev().find(names).unwrap();
         }
         number
     }
@@ -151,9 +175,20 @@ fn faults_are_found_and_made_small() {
         Fault::UndrivenRead,
         Fault::UndrivenCounted,
         Fault::NotRenumbered,
+        Fault::CountBeforeLimit,
+        Fault::ClassUnread,
+        Fault::KindUnread,
+        Fault::HeaderNumbered,
+        Fault::HeaderWithoutClass,
+        Fault::HeaderLast,
     ] {
         let smallest = found(fault);
-        assert!(smallest.table.len() <= 3, "{smallest}");
+        // three words and the header
+        assert!(smallest.table.len() <= 4, "{smallest}");
+        // only faults that a wrong header shows have one
+        let of_header = matches!(fault, Fault::CountBeforeLimit | Fault::ClassUnread | Fault::KindUnread);
+        let right = smallest.table.is_empty() || smallest.table == headed(words(&smallest.table));
+        assert!(of_header != right, "{smallest}");
         assert!(smallest.samples.len() <= 1, "{smallest}");
         let bytes = if fault == Fault::WordsBeforeGrammar { 65 } else { 2 };
         assert!(smallest.text.len() <= bytes, "{smallest}");

@@ -2,15 +2,16 @@
 //! short, or with a byte changed, left out or put in; symbols in any order; any bytes.
 use crate::numbers::Numbers;
 use reference::forest::Forest;
+use reference::header::words;
 use reference::steps::check;
 use reference::text::{show, shown_bytes};
 
 /// A text, at times that of a table.
 pub fn text(numbers: &mut Numbers, table: &[u32]) -> Vec<u8> {
     let mut text = match numbers.below(20) {
-        0..=2 if check(table, false, 64).is_ok() && shown_bytes(table) <= 1_100 => {
+        0..=2 if check(table, false, 64).is_ok() && shown_bytes(words(table)) <= 1_100 => {
             let mut forest = Forest::new();
-            let tree = *forest.of_table(table).last().expect("a word");
+            let tree = *forest.of_words(words(table)).last().expect("a word");
             show(&forest, tree).into_bytes()
         }
         3 => any_symbols(numbers),

@@ -1,5 +1,6 @@
 //! The check table of documents 01 and 02. Every condition that applies is gathered with its rank, and the lowest rank is returned:
 //! "places run downward; the first that applies is returned".
+use crate::header::{count, is_right, words};
 use crate::word::{Field, Word, MOST_WORDS};
 use std::collections::HashSet;
 
@@ -21,11 +22,12 @@ pub struct Faults {
 const WHOLE_TABLE: u32 = 1;
 const EACH_WORD: u32 = 2;
 const UNUSED: u32 = 3;
-const UNTIL_LIKE: u32 = 4;
-const RECORDING: u32 = 5;
-const DRIVEN: u32 = 6;
-const SCRATCH: u32 = 7;
-const TALLY: u32 = 8;
+const HEADER: u32 = 4;
+const UNTIL_LIKE: u32 = 5;
+const RECORDING: u32 = 6;
+const DRIVEN: u32 = 7;
+const SCRATCH: u32 = 8;
+const TALLY: u32 = 9;
 
 impl Faults {
     fn note(&mut self, applies: bool, rank: Rank, number: u32) {
@@ -35,19 +37,29 @@ impl Faults {
         }
     }
 
-    /// Checks 1 to 10.
+    /// Checks 1, 2 and 23, then 3 to 10, then 24.
     pub fn table(&mut self, table: &[u32], plain_only: bool, limit: usize) -> &mut Faults {
-        self.note(table.is_empty(), (WHOLE_TABLE, 0, 1), 1);
-        self.note(table.len() > limit.min(MOST_WORDS), (WHOLE_TABLE, 0, 2), 2);
+        self.note(count(table) == 0, (WHOLE_TABLE, 0, 1), 1);
+        self.note(count(table) > limit.min(MOST_WORDS), (WHOLE_TABLE, 0, 2), 2);
+        self.note(count(table) != words(table).len(), (WHOLE_TABLE, 0, 3), 23);
+        self.words(words(table), plain_only);
+        // words that don't pass have no class
+        let passes = self.found.is_empty();
+        self.note(passes && !is_right(table), (HEADER, 0, 0), 24);
+        self
+    }
+
+    /// Checks 3 to 10, of words without their header.
+    pub fn words(&mut self, words: &[u32], plain_only: bool) -> &mut Faults {
         let mut seen = HashSet::new();
         let mut used = HashSet::new();
-        for (n, &bits) in (1..).zip(table) {
+        for (n, &bits) in (1..).zip(words) {
             let word = Word::of(bits);
             self.word(n, word, plain_only);
             self.note(!seen.insert(bits), (EACH_WORD, n, 9), 9);
             used.extend(word.operands());
         }
-        for n in 1..table.len() {
+        for n in 1..words.len() {
             self.note(!used.contains(&n), (UNUSED, n, 0), 10);
         }
         self
@@ -71,8 +83,8 @@ impl Faults {
     }
 
     /// Check 11: the place is the ninth until-like word.
-    pub fn until_like(&mut self, table: &[u32]) -> &mut Faults {
-        let places: Vec<usize> = until_like(table);
+    pub fn until_like(&mut self, words: &[u32]) -> &mut Faults {
+        let places: Vec<usize> = until_like(words);
         if places.len() > 8 {
             self.note(true, (UNTIL_LIKE, places[8], 0), 11);
         }
@@ -89,8 +101,8 @@ impl Faults {
     }
 
     /// Check 21: words whose letter is above the driven count, the lowest first.
-    pub fn driven(&mut self, table: &[u32], driven: usize) -> &mut Faults {
-        for (n, &bits) in (1..).zip(table) {
+    pub fn driven(&mut self, words: &[u32], driven: usize) -> &mut Faults {
+        for (n, &bits) in (1..).zip(words) {
             let word = Word::of(bits);
             let names = word.fields().is_some_and(|(_, right)| right == Field::Letter);
             self.note(names && word.right > driven, (DRIVEN, n, 0), 21);
@@ -119,13 +131,13 @@ impl Faults {
 }
 
 /// The numbers of the until-like words, rising.
-pub fn until_like(table: &[u32]) -> Vec<usize> {
-    (1..).zip(table).filter(|(_, &w)| (8..=11).contains(&Word::of(w).kind)).map(|(n, _)| n).collect()
+pub fn until_like(words: &[u32]) -> Vec<usize> {
+    (1..).zip(words).filter(|(_, &w)| (8..=11).contains(&Word::of(w).kind)).map(|(n, _)| n).collect()
 }
 
-/// Check 12, last: a slice counts for 16,383 words at most.
+/// Check 12, last: a slice counts for 16,383 words at most, and for a header beyond them.
 pub fn fits(words: usize, slice: usize) -> Result<(), Refusal> {
-    if words > slice.min(MOST_WORDS) {
+    if words > slice.min(1 + MOST_WORDS) {
         return Err(Refusal { number: 12, place: 0 });
     }
     Ok(())

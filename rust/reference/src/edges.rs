@@ -1,8 +1,19 @@
-//! Rules at the edges that document 01 names, for the runs of the program and the comparison.
+//! Rules at the edges that document 01 names, for the cases, the runs of the program and the comparison: words, which get their header by
+//! `headed`.
+use crate::checks::Faults;
 use crate::forest::{Forest, Node, Tree};
+use crate::header::header;
 use crate::listing::bits;
 use crate::text::read;
-use crate::word::Word;
+use crate::word::{Word, MOST_WORDS};
+
+/// Any words as a table: with the header that they have, or where they don't pass the checks or are too many for the field, with class
+/// 0 and the count as near as it can be.
+pub fn headed(words: &[u32]) -> Vec<u32> {
+    let passes = !words.is_empty() && words.len() <= MOST_WORDS && Faults::default().words(words, false).first().is_ok();
+    let header = if passes { header(words) } else { Word::new(0, 0, words.len().min(MOST_WORDS)) };
+    [&[header.bits()], words].concat()
+}
 
 /// Letter 1, then X of the word before.
 pub fn chain_of_next(words: usize) -> Vec<u32> {
@@ -21,7 +32,7 @@ pub fn chain_of(kind: u32, k: usize) -> Vec<u32> {
     table
 }
 
-/// Every operator nested in every other, so many deep: the rule as text, and its table.
+/// Every operator nested in every other, so many deep: the rule as text, and its words.
 pub fn nested(deep: usize) -> Vec<(String, Vec<u32>)> {
     let mut texts = vec!["p1".to_string()];
     for letter in (2..).take(deep) {
@@ -42,13 +53,14 @@ fn bits_of(text: &str) -> Vec<u32> {
     bits(&forest, tree)
 }
 
-/// Plain rules whose forms are as long as the program's slice, as long as any slice counts for, and a word longer or shorter: the form's
-/// length, and the table. Seven U and M words stand in one W word, so that the rule opens differently for each choice of them.
+/// Plain rules whose forms have as many words as fit the program's slice, as many as any slice counts for, and one more or less: the form's
+/// words, without its header, and the rule's. Seven U and M words stand in one W word, so that the rule opens differently for each
+/// choice of them.
 pub fn long_forms() -> Vec<(usize, Vec<u32>)> {
     LONG.iter().map(|(form_words, order, chains)| (*form_words, long_form(order, chains))).collect()
 }
 
-/// The form's length, the order of the seven words, and how many X stand over the first 1, 2, .. 7 of them and over the goal. An X over
+/// The form's words, the order of the seven words, and how many X stand over the first 1, 2, .. 7 of them and over the goal. An X over
 /// the first j adds about 2^j words to the form, one over the goal a single one.
 const LONG: [(usize, [usize; 7], [usize; 8]); 5] = [
     (4_096, [2, 0, 1, 3, 4, 5, 6], [1, 1, 0, 0, 1, 1, 16, 2]),
@@ -88,12 +100,12 @@ fn seven(forest: &mut Forest) -> [Tree; 7] {
 #[cfg(test)]
 mod tests {
     use super::*;
-    use crate::steps::normal_form;
+    use crate::steps::normal_words;
 
     #[test]
     fn forms_are_as_long_as_said() {
-        for (form_words, table) in long_forms() {
-            assert_eq!(normal_form(&table).expect("it has a form").len(), form_words);
+        for (form_words, words) in long_forms() {
+            assert_eq!(normal_words(&headed(&words)).expect("it has a form").len(), form_words);
         }
     }
 }

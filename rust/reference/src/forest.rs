@@ -50,10 +50,10 @@ impl Forest {
         self.nodes[tree.0 as usize]
     }
 
-    /// The tree of each word of a table that passes the checks.
-    pub fn of_table(&mut self, table: &[u32]) -> Vec<Tree> {
+    /// The tree of each word of a table that passes the checks, without its header.
+    pub fn of_words(&mut self, words: &[u32]) -> Vec<Tree> {
         let mut trees: Vec<Tree> = Vec::new();
-        for &bits in table {
+        for &bits in words {
             let word = Word::of(bits);
             let node = node_of(word, |n| trees[n - 1]);
             trees.push(self.grow(node));

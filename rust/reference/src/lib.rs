@@ -9,6 +9,7 @@ pub mod class;
 pub mod dialect;
 pub mod edges;
 pub mod forest;
+pub mod header;
 pub mod listing;
 pub mod normal;
 pub mod plain;

@@ -1,6 +1,7 @@
 //! What the program prints for its arguments and the bytes on its standard input.
 use crate::checks::Refusal;
 use crate::forest::Forest;
+use crate::header::words;
 use crate::steps::{form, text};
 use crate::text::{show, shown_bytes};
 
@@ -27,8 +28,9 @@ impl Run {
     pub fn prints(&self) -> Printed {
         match self.form() {
             Err(refusal) => self.refused(refusal),
-            Ok(form) if self.as_text => as_text(&form),
+            Ok(form) if self.as_text => as_text(words(&form)),
             Ok(form) => {
+                // the header first, which the length counts too
                 let lines: String = form.iter().map(|w| format!("{w:08X}\n")).collect();
                 Printed { output: format!("{}\n{lines}", form.len()), ..Printed::default() }
             }
@@ -37,16 +39,16 @@ impl Run {
 
     fn form(&self) -> Result<Vec<u32>, Refusal> {
         let table = self.table()?;
-        let (mut plain, mut result) = ([0; 130], [0; 4096]);
-        let words = form(&table, &mut plain, &mut result)?;
-        Ok(result[..words].to_vec())
+        let (mut plain, mut result) = ([0; 131], [0; 4097]);
+        let length = form(&table, &mut plain, &mut result)?;
+        Ok(result[..length].to_vec())
     }
 
     fn table(&self) -> Result<Vec<u32>, Refusal> {
         if self.text {
-            let mut table = [0; 64];
-            let words = text(self.typed(), &mut table)?;
-            return Ok(table[..words].to_vec());
+            let mut table = [0; 65];
+            let length = text(self.typed(), &mut table)?;
+            return Ok(table[..length].to_vec());
         }
         if !self.input.len().is_multiple_of(4) {
             return Err(Refusal { number: 18, place: 0 });
@@ -84,13 +86,18 @@ fn as_text(form: &[u32]) -> Printed {
         return Printed { error: format!("the text of the form has {bytes} bytes, {too_long}\n"), ..Printed::default() };
     }
     let mut forest = Forest::new();
-    let tree = *forest.of_table(form).last().expect("a form has a word");
+    let tree = *forest.of_words(form).last().expect("a form has a word");
     Printed { output: format!("{}\n", show(&forest, tree)), ..Printed::default() }
 }
 
 #[cfg(test)]
 mod tests {
     use super::*;
+    use crate::edges::chain_of_next;
+
+    fn bytes(table: &[u32]) -> Vec<u8> {
+        table.iter().flat_map(|word| word.to_le_bytes()).collect()
+    }
 
     /// Standard output and standard error.
     fn printed(arguments: &str, input: &[u8]) -> (String, String) {
@@ -101,16 +108,28 @@ mod tests {
 
     #[test]
     fn always_as_document_01_prints_it() {
-        let input: Vec<u8> = [0x3000_0001u32, 0xE000_0001].iter().flat_map(|w| w.to_le_bytes()).collect();
-        let listing = "10000000 30000001 A0004002 60004003 B0010002 20000000 A0004003 80018007 50014008 60014009";
-        let expected: String = format!("10\n{}\n", listing.replace(' ', "\n"));
+        let input = bytes(&[0x0000_0002, 0x3000_0001, 0xE000_0001]);
+        let words = "10000000 30000001 A0004002 60004003 B0010002 20000000 A0004003 80018007 50014008 60014009";
+        let expected: String = format!("11\n0014000A\n{}\n", words.replace(' ', "\n"));
         assert_eq!(printed("", &input), (expected.clone(), "".into()));
         assert_eq!(printed("text", b"Gp1\r\n"), (expected, "".into()));
         assert_eq!(printed("", &input[..7]), ("refused 18 at 0\n".into(), "".into()));
         assert_eq!(printed("", &[]), ("refused 1 at 0\n".into(), "".into()));
+        // a file that is cut
+        assert_eq!(printed("", &input[..8]), ("refused 23 at 0\n".into(), "".into()));
+        assert_eq!(printed("", &input[..4]), ("refused 23 at 0\n".into(), "".into()));
         let form = "(((false | (false R p1)) M p1) | (((false | (false R p1)) M p1) & (true U (false R (false R p1)))))\n";
         assert_eq!(printed("as-text", &input), (form.into(), "".into()));
         assert_eq!(printed("text as-text", b"Gp1"), (form.into(), "".into()));
+    }
+
+    #[test]
+    fn long_inputs() {
+        let of = |count: u32, words: usize| printed("", &bytes(&[vec![0x001F_8000 + count], chain_of_next(words)].concat())).0;
+        assert!(of(64, 64).starts_with("65\n001F8040\n30000001\n70000001\n"));
+        assert_eq!([of(65, 65), of(65, 64), of(16_383, 0), of(65, 5_000)], ["refused 2 at 0\n"; 4]);
+        assert_eq!([of(64, 65), of(64, 5_000), of(64, 63), of(1, 0)], ["refused 23 at 0\n"; 4]);
+        assert_eq!([of(0, 64), of(0, 5_000), of(0, 0)], ["refused 1 at 0\n"; 3]);
     }
 
     #[test]

@@ -1,4 +1,4 @@
-//! The rules of Tables 6 and 8 of source 000, with their negations, as written tables.
+//! The rules of Tables 6 and 8 of source 000, with their negations, as words of written tables, without a header.
 use crate::forest::{Forest, Node};
 use crate::listing::bits;
 use crate::text::read;
@@ -22,14 +22,15 @@ pub fn rules() -> Vec<(String, Vec<u32>)> {
 #[cfg(test)]
 mod tests {
     use super::*;
+    use crate::edges::headed;
     use crate::steps::check;
 
     #[test]
     fn every_rule_is_a_written_table() {
         let rules = rules();
         assert_eq!(rules.len(), 2 * (49 + 33));
-        for (name, table) in rules {
-            assert_eq!(check(&table, false, 64), Ok(()), "{name}");
+        for (name, words) in rules {
+            assert_eq!(check(&headed(&words), false, 64), Ok(()), "{name}");
         }
     }
 }

@@ -1,8 +1,10 @@
-//! Every step as a desk calls it: the reply, and what each lent slice holds afterwards, refused calls included.
+//! Every step as a desk calls it: the reply, and what each lent slice holds afterwards, refused calls included. Every table, handed in or
+//! made, has its header in front.
 use crate::checks::{fits, until_like, Faults, Refusal};
 use crate::class::Classes;
 use crate::dialect::convert;
 use crate::forest::Forest;
+use crate::header::{header, words};
 use crate::listing::list;
 use crate::normal::normal as normal_tree;
 use crate::plain::Plain;
@@ -30,12 +32,12 @@ pub fn check(table: &[u32], plain_only: bool, limit: usize) -> Result<(), Refusa
     Faults::default().table(table, plain_only, limit).first()
 }
 
-/// One byte a word.
+/// One byte a word, none for the header.
 pub fn classify(table: &[u32], bytes: &mut [u8]) -> Result<(), Refusal> {
     check(table, true, MOST_WORDS)?;
-    fits(table.len(), bytes.len()).inspect_err(|_| bytes.fill(0))?;
+    fits(words(table).len(), bytes.len()).inspect_err(|_| bytes.fill(0))?;
     let mut forest = Forest::new();
-    let trees = forest.of_table(table);
+    let trees = forest.of_words(words(table));
     let classes = Classes::of(&forest, &trees);
     for (byte, tree) in bytes.iter_mut().zip(trees) {
         *byte = classes.byte(tree);
@@ -43,8 +45,8 @@ pub fn classify(table: &[u32], bytes: &mut [u8]) -> Result<(), Refusal> {
     Ok(())
 }
 
-/// The table of a rule typed as text (document 02, N1), by every check but 12: 20, then 19, then 2.
-pub fn text_table(text: &[u8]) -> Result<Vec<Word>, Refusal> {
+/// The words of a rule typed as text (document 02, N1), by every check but 12: 20, then 19, then 2.
+pub fn text_words(text: &[u8]) -> Result<Vec<Word>, Refusal> {
     if text.len() > 1_024 {
         return Err(Refusal { number: 20, place: 0 });
     }
@@ -57,85 +59,86 @@ pub fn text_table(text: &[u8]) -> Result<Vec<Word>, Refusal> {
     Ok(words)
 }
 
-/// The plain form, by every check but 12.
-pub fn plain_form(table: &[u32]) -> Result<Vec<Word>, Refusal> {
+/// The words of the plain form, by every check but 12.
+pub fn plain_words(table: &[u32]) -> Result<Vec<Word>, Refusal> {
     check(table, false, 64)?;
     let mut forest = Forest::new();
-    let trees = forest.of_table(table);
+    let trees = forest.of_words(words(table));
     let form = Plain::of(&mut forest, trees[trees.len() - 1]);
     Ok(list(&forest, form))
 }
 
-/// The normal form, by every check but 12.
-pub fn normal_form(table: &[u32]) -> Result<Vec<Word>, Refusal> {
-    Faults::default().table(table, true, 130).until_like(table).first()?;
+/// The words of the normal form, by every check but 12.
+pub fn normal_words(table: &[u32]) -> Result<Vec<Word>, Refusal> {
+    Faults::default().table(table, true, 130).until_like(words(table)).first()?;
     let mut forest = Forest::new();
-    let trees = forest.of_table(table);
-    let chosen: Vec<_> = until_like(table).iter().map(|n| trees[n - 1]).collect();
+    let trees = forest.of_words(words(table));
+    let chosen: Vec<_> = until_like(words(table)).iter().map(|n| trees[n - 1]).collect();
     let form = normal_tree(&mut forest, trees[trees.len() - 1], &chosen);
     Ok(list(&forest, form))
 }
 
-/// The table in the dialect without W and M (document 02, N4), by every check but 12.
-pub fn dialect_table(table: &[u32]) -> Result<Vec<Word>, Refusal> {
+/// The words of the table in the dialect without W and M (document 02, N4), by every check but 12.
+pub fn dialect_words(table: &[u32]) -> Result<Vec<Word>, Refusal> {
     check(table, true, MOST_WORDS)?;
     let mut forest = Forest::new();
-    let trees = forest.of_table(table);
+    let trees = forest.of_words(words(table));
     let converted = convert(&mut forest, &trees);
     Ok(list(&forest, converted[converted.len() - 1]))
 }
 
-/// Writes a table to the front of a slice: check 12.
-pub fn write(table: Result<Vec<Word>, Refusal>, result: &mut [u32]) -> Result<usize, Refusal> {
-    let words = table?;
-    fits(words.len(), result.len()).inspect_err(|_| result.fill(0))?;
-    for (slot, word) in result.iter_mut().zip(&words) {
-        *slot = word.bits();
-    }
-    Ok(words.len())
+/// Writes a table, header and words, to the front of a slice: check 12. The length counts the header.
+pub fn write(words: Result<Vec<Word>, Refusal>, result: &mut [u32]) -> Result<usize, Refusal> {
+    let words = words?;
+    let length = 1 + words.len();
+    fits(length, result.len()).inspect_err(|_| result.fill(0))?;
+    let words: Vec<u32> = words.iter().map(|word| word.bits()).collect();
+    result[0] = header(&words).bits();
+    result[1..length].copy_from_slice(&words);
+    Ok(length)
 }
 
 pub fn text(text: &[u8], result: &mut [u32]) -> Result<usize, Refusal> {
-    write(text_table(text), result)
+    write(text_words(text), result)
 }
 
 pub fn plain(table: &[u32], result: &mut [u32]) -> Result<usize, Refusal> {
-    write(plain_form(table), result)
+    write(plain_words(table), result)
 }
 
 pub fn normal(table: &[u32], result: &mut [u32]) -> Result<usize, Refusal> {
-    write(normal_form(table), result)
+    write(normal_words(table), result)
 }
 
 pub fn dialect(table: &[u32], result: &mut [u32]) -> Result<usize, Refusal> {
-    write(dialect_table(table), result)
+    write(dialect_words(table), result)
 }
 
-/// The whole way: the normal-form step is handed exactly the words that the plain-form step answered.
+/// The whole way: the normal-form step is handed exactly the table that the plain-form step answered, its header too.
 pub fn form(table: &[u32], plain_room: &mut [u32], result: &mut [u32]) -> Result<usize, Refusal> {
-    let words = plain(table, plain_room)?;
-    normal(&plain_room[..words], result)
+    let length = plain(table, plain_room)?;
+    normal(&plain_room[..length], result)
 }
 
-/// The rows of all words, one after the other.
+/// The rows of all words, one after the other; the header has none.
 fn rows(table: &[u32], recording: Recording) -> Vec<u64> {
     let mut forest = Forest::new();
-    let trees = forest.of_table(table);
+    let trees = forest.of_words(words(table));
     let truth = Truth::of(&forest, &trees, recording);
     trees.iter().flat_map(|&tree| truth.packed(tree)).collect()
 }
 
 fn rule_row(table: &[u32], recording: Recording) -> Vec<bool> {
     let mut forest = Forest::new();
-    let trees = forest.of_table(table);
+    let trees = forest.of_words(words(table));
     Truth::of(&forest, &trees, recording).row(trees[trees.len() - 1]).to_vec()
 }
 
 fn row_faults(table: &[u32], recording: Recording, scratch: &[u64]) -> Faults {
     let (samples, start, driven) = (recording.len(), recording.start, recording.driven);
     let mut faults = Faults::default();
-    faults.table(table, false, MOST_WORDS).recording(samples, start, driven).driven(table, driven);
-    faults.scratch(table.len(), samples, scratch.len());
+    faults.table(table, false, MOST_WORDS).recording(samples, start, driven).driven(words(table), driven);
+    faults.scratch(words(table).len(), samples, scratch.len());
     faults
 }
 

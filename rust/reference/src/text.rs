@@ -123,10 +123,10 @@ pub fn show(forest: &Forest, tree: Tree) -> String {
     }
 }
 
-/// How many bytes `show` prints for the last word of a table that passes the checks: a shared word counts wherever it is used.
-pub fn shown_bytes(table: &[u32]) -> u128 {
+/// How many bytes `show` prints for the last of some words that pass the checks: a shared word counts wherever it is used.
+pub fn shown_bytes(words: &[u32]) -> u128 {
     let mut bytes: Vec<u128> = Vec::new();
-    for &bits in table {
+    for &bits in words {
         let word = Word::of(bits);
         let own = match word.kind {
             1 => 5,
@@ -147,7 +147,7 @@ mod tests {
     use super::*;
     use crate::edges::{chain_of_ands, nested};
     use crate::listing::bits;
-    use crate::steps::text_table;
+    use crate::steps::text_words;
     use crate::typed;
 
     #[test]
@@ -157,13 +157,13 @@ mod tests {
             let tree = typed::read(&mut forest, text.as_bytes()).expect("a rule");
             assert_eq!(show(&forest, tree), text);
         }
-        for (_, table) in nested(2) {
-            let tree = *forest.of_table(&table).last().expect("a word");
+        for (_, words) in nested(2) {
+            let tree = *forest.of_words(&words).last().expect("a word");
             let shown = show(&forest, tree);
-            assert_eq!(shown_bytes(&table), shown.len() as u128);
-            let words = text_table(shown.as_bytes()).expect("a rule");
-            assert_eq!(words.iter().map(|w| w.bits()).collect::<Vec<u32>>(), table);
-            assert_eq!(bits(&forest, tree), table);
+            assert_eq!(shown_bytes(&words), shown.len() as u128);
+            let read = text_words(shown.as_bytes()).expect("a rule");
+            assert_eq!(read.iter().map(|w| w.bits()).collect::<Vec<u32>>(), words);
+            assert_eq!(bits(&forest, tree), words);
         }
         assert_eq!(shown_bytes(&chain_of_ands(60)), 2 * (1 << 60) + 5 * ((1 << 60) - 1));
     }

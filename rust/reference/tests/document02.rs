@@ -1,10 +1,11 @@
-//! Document 02's sentences about texts (N1), driven letters (N3) and the dialect without W and M (N4), held to the reference itself.
+//! Document 02's sentences about texts (N1), driven letters (N3), the dialect without W and M (N4) and the header (N5), held to the
+//! reference itself.
 use reference::checks::Refusal;
-use reference::edges::{chain_of, chain_of_next};
+use reference::edges::{chain_of, chain_of_next, headed};
 use reference::recording::Recording;
-use reference::steps::{dialect, row, text};
+use reference::steps::{check, classify, dialect, form, judge, normal, plain, row, text, Tally};
 
-/// The words of a text, or its refusal's number and place, with so much room.
+/// The table of a text, or its refusal's number and place, with so much room.
 fn read(typed: &str, room: usize) -> Result<Vec<u32>, (u32, usize)> {
     let mut result = vec![7; room];
     let made = text(typed.as_bytes(), &mut result);
@@ -18,13 +19,14 @@ fn read(typed: &str, room: usize) -> Result<Vec<u32>, (u32, usize)> {
 
 #[test]
 fn numbered_by_first_need_with_sharing() {
-    assert_eq!(read("!p1", 64), Ok(vec![0x3000_0001, 0xC000_0001]));
-    assert_eq!(read("(p2 -> p1)", 64), Ok(vec![0x3000_0002, 0x3000_0001, 0xF000_4002]));
-    assert_eq!(read("((p1 & p1) U (p1 & p1))", 64), Ok(vec![0x3000_0001, 0x5000_4001, 0x8000_8002]));
-    assert_eq!(read(" ( G true|Ffalse ) ", 64), Ok(vec![0x2000_0000, 0xE000_0001, 0x1000_0000, 0xD000_0003, 0x6000_8004]));
+    assert_eq!(read("!p1", 65), Ok(vec![0x0000_0002, 0x3000_0001, 0xC000_0001]));
+    assert_eq!(read("(p2 -> p1)", 65), Ok(vec![0x0000_0003, 0x3000_0002, 0x3000_0001, 0xF000_4002]));
+    assert_eq!(read("((p1 & p1) U (p1 & p1))", 65), Ok(vec![0x001E_8003, 0x3000_0001, 0x5000_4001, 0x8000_8002]));
+    let or = vec![0x0000_0005, 0x2000_0000, 0xE000_0001, 0x1000_0000, 0xD000_0003, 0x6000_8004];
+    assert_eq!(read(" ( G true|Ffalse ) ", 65), Ok(or));
     let every = "(((p1 & p2) | (p3 U p4)) -> ((p5 W p6) R (p7 M X!p8)))";
-    let kinds: Vec<u32> = read(every, 64).expect("a rule").iter().map(|word| word >> 28).collect();
-    assert_eq!(kinds, [3, 3, 5, 3, 3, 8, 6, 3, 3, 9, 3, 3, 12, 7, 11, 10, 15]);
+    let kinds: Vec<u32> = read(every, 65).expect("a rule").iter().map(|word| word >> 28).collect();
+    assert_eq!(kinds, [0, 3, 3, 5, 3, 3, 8, 6, 3, 3, 9, 3, 3, 12, 7, 11, 10, 15]);
 }
 
 #[test]
@@ -32,14 +34,14 @@ fn the_order_of_refusals() {
     let prefixes = |n: usize| format!("{}p1", "X".repeat(n));
     // 20 is checked first, then 19, then 2, then 12
     assert_eq!(read(&prefixes(1_023), 0), Err((20, 0)));
-    assert_eq!(read(&"x".repeat(1_025), 64), Err((20, 0)));
-    assert_eq!(read(&"x".repeat(1_024), 64), Err((19, 1)));
+    assert_eq!(read(&"x".repeat(1_025), 65), Err((20, 0)));
+    assert_eq!(read(&"x".repeat(1_024), 65), Err((19, 1)));
     assert_eq!(read(&format!("{})", prefixes(69)), 10), Err((19, 72)));
     assert_eq!(read(&prefixes(69), 10), Err((2, 0)));
     assert_eq!(read(&prefixes(19), 10), Err((12, 0)));
-    assert_eq!(read(&prefixes(64), 64), Err((2, 0)));
-    assert_eq!(read(&prefixes(63), 64).map(|words| words.len()), Ok(64));
-    assert_eq!(read(&prefixes(63), 63), Err((12, 0)));
+    assert_eq!(read(&prefixes(64), 65), Err((2, 0)));
+    assert_eq!(read(&prefixes(63), 65).map(|table| table.len()), Ok(65));
+    assert_eq!(read(&prefixes(63), 64), Err((12, 0)));
     assert_eq!(read("", 0), Err((19, 1)));
 }
 
@@ -53,7 +55,7 @@ fn row_of(table: &[u32], sample: u32, start: usize, driven: usize, room: usize) 
 #[test]
 fn undriven_letters_are_turned_away() {
     // p3 or not p5
-    let or = [0x3000_0003, 0x4000_0005, 0x6000_4002];
+    let or = [0x001F_C003, 0x3000_0003, 0x4000_0005, 0x6000_4002];
     assert_eq!([0, 2, 4].map(|driven| row_of(&or, 0, 0, driven, 3)), [Err((21, 1)), Err((21, 1)), Err((21, 2))]);
     assert_eq!([5, 32].map(|driven| row_of(&or, 0, 0, driven, 3)), [Ok(1), Ok(1)]);
     // after 15; before 16
@@ -62,21 +64,23 @@ fn undriven_letters_are_turned_away() {
     assert_eq!(row_of(&or, 0, 0, 2, 0), Err((21, 1)));
     assert_eq!(row_of(&or, 0, 0, 5, 2), Err((16, 0)));
     // a constant with nothing driven
-    assert_eq!(row_of(&[0x2000_0000], 0, 0, 0, 1), Ok(1));
+    assert_eq!(row_of(&[0x001F_C001, 0x2000_0000], 0, 0, 0, 1), Ok(1));
     // bits above the count are never looked at
     assert_eq!(row_of(&or, 0b01_0000, 0, 5, 3), row_of(&or, 0xFFFF_FFE0 | 0b01_0000, 0, 5, 3));
 }
 
-/// The words of a conversion, or its refusal's number and place, with so much room.
-fn converted(table: &[u32], room: usize) -> Result<Vec<u32>, (u32, usize)> {
-    let mut result = vec![7; room];
-    let made = dialect(table, &mut result);
+/// The words of a conversion of these words, or its refusal's number and place, with room for so many.
+fn converted(words: &[u32], room: usize) -> Result<Vec<u32>, (u32, usize)> {
+    let mut result = vec![7; 1 + room];
+    let made = dialect(&headed(words), &mut result);
     match made {
-        Ok(words) => assert!(result[words..].iter().all(|&word| word == 7)),
+        Ok(length) => assert!(result[length..].iter().all(|&word| word == 7)),
         Err(Refusal { number: 12, .. }) => assert!(result.iter().all(|&word| word == 0)),
         Err(_) => assert!(result.iter().all(|&word| word == 7)),
     }
-    made.map(|words| result[..words].to_vec()).map_err(|Refusal { number, place }| (number, place))
+    let length = made.map_err(|Refusal { number, place }| (number, place))?;
+    assert_eq!(result[..length], headed(&result[1..length]));
+    Ok(result[1..length].to_vec())
 }
 
 #[test]
@@ -100,10 +104,95 @@ fn refused_conversions() {
     }
     assert_eq!(converted(&[p1, p2, 0xF000_4002], 9), Err((4, 3)));
     assert_eq!(converted(&[p1, p2, 0x9000_4002], 3), Err((12, 0)));
-    assert_eq!(converted(&chain_of_next(16_384), 16_384), Err((2, 0)));
+    // no header can say 16,384
+    assert_eq!(converted(&chain_of_next(16_384), 16_384), Err((23, 0)));
     assert_eq!(converted(&chain_of_next(16_383), 16_383), Ok(chain_of_next(16_383)));
     assert_eq!(converted(&chain_of_next(16_383), 16_382), Err((12, 0)));
     // two words for each W, one of which is too many for the fields
     assert_eq!(converted(&chain_of(9, 8_190), 16_383).map(|words| words.len()), Ok(16_382));
     assert_eq!(converted(&chain_of(9, 8_191), 20_000), Err((12, 0)));
+}
+
+/// N5: number and place of a check, (0, 0) where it is accepted.
+fn checked(table: &[u32], plain_only: bool, limit: usize) -> (u32, usize) {
+    check(table, plain_only, limit).map_or_else(|refusal| (refusal.number, refusal.place), |()| (0, 0))
+}
+
+const ALWAYS: [u32; 3] = [0x0000_0002, 0x3000_0001, 0xE000_0001];
+
+#[test]
+fn always_is_listed_with_its_header() {
+    let (mut plain, mut result) = ([7; 131], [7; 4_097]);
+    assert_eq!(form(&ALWAYS, &mut plain, &mut result), Ok(11));
+    assert_eq!(plain[..5], [0x001F_0003, 0x1000_0000, 0x3000_0001, 0xA000_4002, 7]);
+    assert_eq!(result[..4], [0x0014_000A, 0x1000_0000, 0x3000_0001, 0xA000_4002]);
+    assert_eq!(result[10..12], [0x6001_4009, 7]);
+}
+
+#[test]
+fn headers_are_checked_in_their_places() {
+    // 1: an empty slice, or a count of 0, whatever else there is
+    for table in [&[][..], &[0], &[0, 0x3000_0001], &[0xFFFF_C000, 0x3000_0001], &[0x2000_0000, 0x3000_0001]] {
+        assert_eq!(checked(table, false, 64), (1, 0));
+    }
+    // 2 measures the count; 23 comes straight after it, and before the words
+    assert_eq!([checked(&[65, 0], false, 64), checked(&[0xFFFF_FFFF, 0], false, 64)], [(2, 0); 2]);
+    assert_eq!([checked(&[64, 0], false, 64), checked(&[2, 0], false, 64), checked(&[1], false, 64)], [(23, 0); 3]);
+    assert_eq!([checked(&[1, 0, 0], false, 64), checked(&[0x1000_0001, 0, 0], false, 64)], [(23, 0); 2]);
+    assert_eq!(checked(&[vec![64], vec![0; 65]].concat(), false, 64), (23, 0));
+    assert_eq!(checked(&[2, 0], false, 0), (2, 0));
+    // words are numbered from 1 after the header, and come before 24
+    assert_eq!(checked(&[0xF000_0001, 0], false, 64), (3, 1));
+    assert_eq!(checked(&[0x0000_4002, 0x3000_0001, 0x7000_0002], false, 64), (6, 2));
+    assert_eq!(checked(&[0x0000_4002, 0x3000_0001, 0x3000_0002], false, 64), (10, 1));
+    // 24: kind, then class
+    let under = |header: u32| checked(&[header, ALWAYS[1], ALWAYS[2]], false, 64);
+    assert_eq!([0x1000_0002, 0x0000_4002, 0x001F_0002].map(under), [(24, 0); 3]);
+    assert_eq!(checked(&ALWAYS, false, 64), (0, 0));
+    assert_eq!([0, 0x001F_8000, 0x003F_C000].map(|class| checked(&[class + 1, 0x3000_0001], true, 64)), [(24, 0); 3]);
+    assert_eq!(checked(&[0x001F_C001, 0x3000_0001], true, 64), (0, 0));
+    // a written word below the last counts too
+    assert_eq!(checked(&[0x001F_8003, 0x3000_0001, 0xC000_0001, 0x7000_0002], false, 64), (24, 0));
+    assert_eq!(checked(&[0x0000_0003, 0x3000_0001, 0xC000_0001, 0x7000_0002], false, 64), (0, 0));
+    // limits leave the header out
+    for limit in [64, 130, 16_383] {
+        assert_eq!(checked(&headed(&chain_of_next(limit)), true, limit), (0, 0));
+    }
+}
+
+/// Number and place.
+fn told<T>(answer: Result<T, Refusal>) -> (u32, usize) {
+    answer.map_or_else(|refusal| (refusal.number, refusal.place), |_| (0, 0))
+}
+
+#[test]
+fn headers_come_before_what_a_step_adds() {
+    let wrong = [vec![0x0000_400B], chain_of(8, 9)].concat();
+    assert_eq!(told(normal(&wrong, &mut [])), (24, 0));
+    assert_eq!(told(normal(&headed(&chain_of(8, 9)), &mut [])), (11, 11));
+    assert_eq!(told(plain(&wrong, &mut [])), (24, 0));
+    assert_eq!(told(dialect(&wrong, &mut [])), (24, 0));
+    assert_eq!(told(classify(&wrong, &mut [])), (24, 0));
+    let none = Recording { samples: &[], start: 0, driven: 33 };
+    assert_eq!(told(row(&wrong, none, &mut [])), (24, 0));
+    assert_eq!(told(judge(&wrong, none, &mut [], &mut Tally { judged: 1, held: 2 })), (24, 0));
+}
+
+#[test]
+fn rooms_hold_the_header_and_rows_and_bytes_leave_it_out() {
+    for (room, told) in [(0, (12, 0)), (3, (12, 0)), (4, (0, 0))] {
+        let mut result = vec![7; room];
+        assert_eq!(self::told(plain(&ALWAYS, &mut result)), told);
+        assert!(room == 4 || result.iter().all(|&word| word == 0));
+    }
+    // 16,383 words and the header
+    let long = headed(&chain_of_next(16_383));
+    assert_eq!([16_383, 16_384, 20_000].map(|room| told(dialect(&long, &mut vec![7; room]))), [(12, 0), (0, 0), (0, 0)]);
+    let mut bytes = [7; 3];
+    assert_eq!(classify(&[0x001F_8002, 0x3000_0001, 0x7000_0001], &mut bytes[..2]), Ok(()));
+    assert_eq!(bytes, [0x7F, 0x7E, 7]);
+    let mut scratch = [7; 3];
+    let recording = Recording { samples: &[0, 1], start: 1, driven: 1 };
+    assert_eq!(row(&ALWAYS, recording, &mut scratch[..2]), Ok(1..2));
+    assert_eq!(scratch, [0b10, 0b10, 7]);
 }

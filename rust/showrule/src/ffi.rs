@@ -2,60 +2,60 @@
 //! source: the tests of this crate and the comparison (`rust/compare`) call every one.
 
 extern "C" {
-    pub fn showrule_check(table: *const u32, words: usize, plain: bool, limit: usize, place: *mut usize) -> u32;
+    pub fn showrule_check(table: *const u32, length: usize, plain: bool, limit: usize, place: *mut usize) -> u32;
 
-    pub fn showrule_classify(table: *const u32, words: usize, bytes: *mut u8, room: usize, place: *mut usize) -> u32;
+    pub fn showrule_classify(table: *const u32, length: usize, bytes: *mut u8, room: usize, place: *mut usize) -> u32;
 
     pub fn showrule_text(
         text: *const u8,
         bytes: usize,
         result: *mut u32,
         room: usize,
-        table_words: *mut usize,
+        table_length: *mut usize,
         place: *mut usize,
     ) -> u32;
 
     pub fn showrule_plain(
         table: *const u32,
-        words: usize,
+        length: usize,
         result: *mut u32,
         room: usize,
-        form_words: *mut usize,
+        form_length: *mut usize,
         place: *mut usize,
     ) -> u32;
 
     pub fn showrule_normal(
         table: *const u32,
-        words: usize,
+        length: usize,
         result: *mut u32,
         room: usize,
-        form_words: *mut usize,
+        form_length: *mut usize,
         place: *mut usize,
     ) -> u32;
 
     pub fn showrule_dialect(
         table: *const u32,
-        words: usize,
+        length: usize,
         result: *mut u32,
         room: usize,
-        form_words: *mut usize,
+        form_length: *mut usize,
         place: *mut usize,
     ) -> u32;
 
     pub fn showrule_form(
         table: *const u32,
-        words: usize,
+        length: usize,
         plain: *mut u32,
         plain_room: usize,
         result: *mut u32,
         room: usize,
-        form_words: *mut usize,
+        form_length: *mut usize,
         place: *mut usize,
     ) -> u32;
 
     pub fn showrule_judge(
         table: *const u32,
-        words: usize,
+        length: usize,
         samples: *const u32,
         count: usize,
         start: usize,
@@ -72,7 +72,7 @@ extern "C" {
 
     pub fn showrule_row(
         table: *const u32,
-        words: usize,
+        length: usize,
         samples: *const u32,
         count: usize,
         start: usize,

@@ -1,17 +1,19 @@
 //! Show rules for desks: a safe crate over the proved static library.
 //!
-//! A rule is a table of 32-bit words numbered from 1; document 01 says what they mean. Every call takes slices that the caller
-//! lends, allocates nothing, and answers a `Result`: a [`Refusal`] has the documents' number and place, and says in a sentence what
-//! is wrong. What a slice holds after a call, refused or not, is said at each function. Only printing a table ([`to_text`]), and the
-//! error of a text ([`NotRead`]), which keeps the text, allocate.
+//! A rule is a table of 32-bit words: a header, which has the class of the last word and how many words there are ([`header`]), and then
+//! the words, numbered from 1; documents 01 and 02 say what they mean. Every table that is handed over or back has its header. Every call
+//! takes slices that the caller lends, allocates nothing, and answers a `Result`: a [`Refusal`] has the documents' number and place, and
+//! says in a sentence what is wrong. What a slice holds after a call, refused or not, is said at each function. Only printing a table
+//! ([`to_text`]), and the error of a text ([`NotRead`]), which keeps the text, allocate.
 //!
 //! ```
 //! // G p1: "letter 1, for ever".
-//! let table = [0x3000_0001, 0xE000_0001];
-//! let (mut plain, mut result) = ([0; 130], [0; 4096]);
+//! let table = [showrule::header(0, 2), 0x3000_0001, 0xE000_0001];
+//! let (mut plain, mut result) = ([0; showrule::PLAIN_ROOM], [0; 4097]);
 //! let form = showrule::form(&table, &mut plain, &mut result)?;
-//! assert_eq!(form.len(), 10);
-//! assert_eq!(form[9], 0x6001_4009);
+//! assert_eq!(form.len(), 11);
+//! // class 50, ten words
+//! assert_eq!((form[0], form[10]), (0x0014_000A, 0x6001_4009));
 //! # Ok::<(), showrule::Refusal>(())
 //! ```
 //!
@@ -20,8 +22,8 @@
 //!
 //! ```
 //! let rule: showrule::Rule = "G(p1 -> Fp2)".parse()?;
-//! assert_eq!(*rule, [0x3000_0001, 0x3000_0002, 0xD000_0002, 0xF000_4003, 0xE000_0004]);
-//! let mut result = [0; 130];
+//! assert_eq!(*rule, [0x0000_0005, 0x3000_0001, 0x3000_0002, 0xD000_0002, 0xF000_4003, 0xE000_0004]);
+//! let mut result = [0; showrule::PLAIN_ROOM];
 //! let plain = showrule::plain_form(&rule, &mut result)?;
 //! assert_eq!(showrule::to_text(plain, 100)?, "(false R (!p1 | (true U p2)))");
 //!
@@ -37,9 +39,16 @@
 //! A damaged table is refused with a sentence:
 //!
 //! ```
-//! let refusal = showrule::check(&[0x2000_0000, 0x7000_0000], false, 64).unwrap_err();
+//! let refusal = showrule::check(&[0x001F_8002, 0x2000_0000, 0x7000_0000], false, 64).unwrap_err();
 //! assert_eq!((refusal.number(), refusal.place()), (5, 2));
 //! assert_eq!(refusal.to_string(), "word 2 names no operand: its right field is 0");
+//!
+//! // a file that was cut
+//! let refusal = showrule::check(&[0x001F_8002, 0x2000_0000], false, 64).unwrap_err();
+//! assert_eq!(
+//!     refusal.to_string(),
+//!     "the header's count is 2, and the number of words after it is 1: the table was cut, or added to"
+//! );
 //! ```
 #![warn(missing_docs)]
 
@@ -52,12 +61,18 @@ use refusal::Call;
 pub use refusal::{Refusal, Side};
 pub use text::{from_text, to_text, NotPrinted, NotRead, Rule};
 
-/// The most words that a table can have: a field has 14 bits.
+/// The most words that a table can have, beside its header: a field has 14 bits.
 pub const MOST_WORDS: usize = 16_383;
 /// The most words of a written table that goes into the plain-form step.
 pub const MOST_WRITTEN_WORDS: usize = 64;
 /// The most words of a plain table that goes into the normal-form step. A plain form never has more.
 pub const MOST_PLAIN_WORDS: usize = 130;
+/// The length of a slice that is always enough for the table of a text: 64 words and the header.
+pub const WRITTEN_ROOM: usize = 1 + MOST_WRITTEN_WORDS;
+/// The length of a slice that is always enough for a plain form: 130 words and the header.
+pub const PLAIN_ROOM: usize = 1 + MOST_PLAIN_WORDS;
+/// The length of a slice that is enough for any table: 16,383 words and the header. A longer slice counts for no more.
+pub const MOST_ROOM: usize = 1 + MOST_WORDS;
 /// The most until-like words (kinds 8 to 11) of a plain table that goes into the normal-form step.
 pub const MOST_UNTIL_LIKE: usize = 8;
 /// The most bytes of a text that is read.
@@ -99,11 +114,29 @@ pub struct Judgement {
     pub failing: usize,
 }
 
-/// Checks 1 to 10 of a table: written, or plain (kinds 1 to 11 only), of at most `limit` words. A limit over 16,383 counts for 16,383.
+/// The header of a table of so many words, 1 to 16,383: the class byte is that of the last word, or 0 where a word of kind 12 to 15 occurs.
 ///
 /// ```
-/// assert!(showrule::check(&[0x3000_0001, 0xE000_0001], false, 64).is_ok());
-/// let refusal = showrule::check(&[0x3000_0001, 0xE000_0001], true, 64).unwrap_err();
+/// // F p1, of class 7A
+/// let finally = [showrule::header(0x7A, 3), 0x2000_0000, 0x3000_0001, 0x8000_4002];
+/// assert_eq!(finally[0], 0x001E_8003);
+/// assert!(showrule::check(&finally, true, 130).is_ok());
+/// ```
+pub const fn header(class_byte: u8, words: usize) -> u32 {
+    (class_byte as u32) << 14 | words as u32
+}
+
+/// The words of a table, without its header.
+fn words_of(table: &[u32]) -> &[u32] {
+    table.get(1..).unwrap_or(&[])
+}
+
+/// The checks of a table, 1, 2 and 23, then 3 to 10, then 24: written, or plain (kinds 1 to 11 only), of at most `limit` words beside the
+/// header. A limit over 16,383 counts for 16,383.
+///
+/// ```
+/// assert!(showrule::check(&[0x0000_0002, 0x3000_0001, 0xE000_0001], false, 64).is_ok());
+/// let refusal = showrule::check(&[0x0000_0002, 0x3000_0001, 0xE000_0001], true, 64).unwrap_err();
 /// assert_eq!(refusal.to_string(), "word 2 is of kind 14, which a plain table does not have: make the plain form first");
 /// ```
 pub fn check(table: &[u32], plain: bool, limit: usize) -> Result<(), Refusal> {
@@ -112,11 +145,11 @@ pub fn check(table: &[u32], plain: bool, limit: usize) -> Result<(), Refusal> {
     Call { table, limit: limit.min(MOST_WORDS), ..Call::default() }.answer(number, place)
 }
 
-/// The class byte of every word of a plain table, at the front of `bytes`. What stands past them stays. Refused as 12, every byte of
-/// the slice is 0; refused otherwise, it is as it was.
+/// The class byte of every word of a plain table, at the front of `bytes`; the header has none. What stands past them stays. Refused as 12,
+/// every byte of the slice is 0; refused otherwise, it is as it was.
 ///
 /// ```
-/// let always_eventually = [0x3000_0001, 0x2000_0000, 0x8000_8001, 0x1000_0000, 0xA001_0003];
+/// let always_eventually = [0x0018_0005, 0x3000_0001, 0x2000_0000, 0x8000_8001, 0x1000_0000, 0xA001_0003];
 /// let mut bytes = [0; 5];
 /// showrule::classify(&always_eventually, &mut bytes)?;
 /// assert_eq!(bytes[4], 0x60);
@@ -129,76 +162,77 @@ pub fn classify(table: &[u32], bytes: &mut [u8]) -> Result<(), Refusal> {
 }
 
 /// The plain form of a written table of at most 64 words: the front part of `result`. What stands past it stays. Refused as 12, every
-/// word of the slice is 0; refused otherwise, it is as it was. 130 words are always enough.
+/// word of the slice is 0; refused otherwise, it is as it was. 131 words are always enough.
 ///
 /// ```
-/// let not_finally = [0x3000_0001, 0xD000_0001, 0xC000_0002];
-/// let mut result = [0; 130];
-/// assert_eq!(showrule::plain_form(&not_finally, &mut result)?, [0x1000_0000, 0x4000_0001, 0xA000_4002]);
+/// let not_finally = [0x0000_0003, 0x3000_0001, 0xD000_0001, 0xC000_0002];
+/// let mut result = [0; showrule::PLAIN_ROOM];
+/// assert_eq!(showrule::plain_form(&not_finally, &mut result)?, [0x001F_0003, 0x1000_0000, 0x4000_0001, 0xA000_4002]);
 /// # Ok::<(), showrule::Refusal>(())
 /// ```
 pub fn plain_form<'a>(table: &[u32], result: &'a mut [u32]) -> Result<&'a [u32], Refusal> {
-    let (mut words, mut place) = (0, 0);
+    let (mut length, mut place) = (0, 0);
     let number =
-        unsafe { ffi::showrule_plain(table.as_ptr(), table.len(), result.as_mut_ptr(), result.len(), &mut words, &mut place) };
+        unsafe { ffi::showrule_plain(table.as_ptr(), table.len(), result.as_mut_ptr(), result.len(), &mut length, &mut place) };
     Call { table, limit: MOST_WRITTEN_WORDS, room: result.len(), ..Call::default() }.answer(number, place)?;
-    Ok(&result[..words])
+    Ok(&result[..length])
 }
 
 /// The normal form of a plain table of at most 130 words, 8 of them until-like: the front part of `result`. What stands past it
 /// stays. Refused as 12, every word of the slice is 0; refused otherwise, it is as it was.
 ///
 /// ```
-/// let finally = [0x2000_0000, 0x3000_0001, 0x8000_4002];
-/// let mut result = [0; 4096];
-/// assert_eq!(showrule::normal_form(&finally, &mut result)?.len(), 8);
+/// let finally = [0x001E_8003, 0x2000_0000, 0x3000_0001, 0x8000_4002];
+/// let mut result = [0; 4097];
+/// assert_eq!(showrule::normal_form(&finally, &mut result)?.len(), 9);
 /// # Ok::<(), showrule::Refusal>(())
 /// ```
 pub fn normal_form<'a>(table: &[u32], result: &'a mut [u32]) -> Result<&'a [u32], Refusal> {
-    let (mut words, mut place) = (0, 0);
+    let (mut length, mut place) = (0, 0);
     let number =
-        unsafe { ffi::showrule_normal(table.as_ptr(), table.len(), result.as_mut_ptr(), result.len(), &mut words, &mut place) };
+        unsafe { ffi::showrule_normal(table.as_ptr(), table.len(), result.as_mut_ptr(), result.len(), &mut length, &mut place) };
     Call { table, limit: MOST_PLAIN_WORDS, room: result.len(), ..Call::default() }.answer(number, place)?;
-    Ok(&result[..words])
+    Ok(&result[..length])
 }
 
 /// The table of a plain table's conversion to the dialect without W and M, the front part of `result`: a W b becomes b R (a or b), and
 /// a M b becomes b U (a and b); a table that has neither is renumbered only. What stands past it stays. It takes up to 16,383 words, and
-/// n words become at most 2 n + 2. Refused as 12, every word of the slice is 0; refused otherwise, it is as it was. A table of over 512
-/// words takes some 460 KB of stack.
+/// n words become at most 2 n + 2, beside the header. Refused as 12, every word of the slice is 0; refused otherwise, it is as it was. A
+/// table of over 512 words takes some 460 KB of stack.
 ///
 /// ```
 /// // p1 W p2 is p2 R (p1 or p2)
-/// let weak = [0x3000_0001, 0x3000_0002, 0x9000_4002];
-/// let mut result = [0; 8];
-/// assert_eq!(showrule::dialect(&weak, &mut result)?, [0x3000_0002, 0x3000_0001, 0x6000_8001, 0xA000_4003]);
+/// let weak = [0x001F_0003, 0x3000_0001, 0x3000_0002, 0x9000_4002];
+/// let mut result = [0; 9];
+/// assert_eq!(showrule::dialect(&weak, &mut result)?, [0x001F_0004, 0x3000_0002, 0x3000_0001, 0x6000_8001, 0xA000_4003]);
 /// # Ok::<(), showrule::Refusal>(())
 /// ```
 pub fn dialect<'a>(table: &[u32], result: &'a mut [u32]) -> Result<&'a [u32], Refusal> {
-    let (mut words, mut place) = (0, 0);
+    let (mut length, mut place) = (0, 0);
     let number =
-        unsafe { ffi::showrule_dialect(table.as_ptr(), table.len(), result.as_mut_ptr(), result.len(), &mut words, &mut place) };
+        unsafe { ffi::showrule_dialect(table.as_ptr(), table.len(), result.as_mut_ptr(), result.len(), &mut length, &mut place) };
     Call { table, limit: MOST_WORDS, room: result.len(), ..Call::default() }.answer(number, place)?;
-    Ok(&result[..words])
+    Ok(&result[..length])
 }
 
-/// The whole way: the plain form of a written table at the front of `plain`, and the normal form of exactly those words, the front
-/// part of `result`. What stands past them stays. Where a form does not fit its slice (12), every word of that slice is 0; where the
+/// The whole way: the plain form of a written table at the front of `plain`, and the normal form of exactly that table, the front part
+/// of `result`. What stands past them stays. Where a form does not fit its slice (12), every word of that slice is 0; where the
 /// plain form is refused, `result` is as it was; after 11 and 12 for `result`, the plain form stands in `plain`.
 ///
 /// ```
 /// // Nine until-like words: F p1 and F p2 and .. and F p9.
-/// let mut table: Vec<u32> = (1..=9).map(|n| 0x3000_0000 + n).collect();
+/// let mut table = vec![showrule::header(0, 26)];
+/// table.extend((1..=9).map(|n| 0x3000_0000 + n));
 /// table.extend((1..=9).map(|n| 0xD000_0000 + n));
 /// table.push(0x5000_0000 + (10 << 14) + 11);
 /// table.extend((12..=18).map(|n| 0x5000_0000 + ((n + 7) << 14) + n));
-/// let (mut plain, mut result) = ([0; 130], [0; 4096]);
+/// let (mut plain, mut result) = ([0; showrule::PLAIN_ROOM], [0; 4097]);
 /// let refusal = showrule::form(&table, &mut plain, &mut result).unwrap_err();
 /// assert_eq!(refusal.number(), 11);
 /// assert!(refusal.to_string().contains("of the plain form is the ninth until-like word"));
 /// ```
 pub fn form<'a>(table: &[u32], plain: &mut [u32], result: &'a mut [u32]) -> Result<&'a [u32], Refusal> {
-    let (mut words, mut place) = (0, 0);
+    let (mut length, mut place) = (0, 0);
     let number = unsafe {
         ffi::showrule_form(
             table.as_ptr(),
@@ -207,18 +241,18 @@ pub fn form<'a>(table: &[u32], plain: &mut [u32], result: &'a mut [u32]) -> Resu
             plain.len(),
             result.as_mut_ptr(),
             result.len(),
-            &mut words,
+            &mut length,
             &mut place,
         )
     };
-    // a plain form that was made has no word 0
+    // a plain form that was made begins with its header, which is not 0
     let plain_made = plain.first().is_some_and(|&word| word != 0);
     let room = if plain_made { result.len() } else { plain.len() };
     Call { table, limit: MOST_WRITTEN_WORDS, room, of_plain_form: true, ..Call::default() }.answer(number, place)?;
-    Ok(&result[..words])
+    Ok(&result[..length])
 }
 
-/// How many 64-bit words of scratch a table of so many words needs for a recording of so many samples.
+/// How many 64-bit words of scratch a table of so many words needs for a recording of so many samples. The header needs none.
 pub fn scratch_words(words: usize, samples: usize) -> usize {
     words * samples.div_ceil(64)
 }
@@ -227,7 +261,7 @@ pub fn scratch_words(words: usize, samples: usize) -> usize {
 /// changes neither.
 ///
 /// ```
-/// let always = [0x3000_0001, 0xE000_0001];
+/// let always = [0x0000_0002, 0x3000_0001, 0xE000_0001];
 /// let mut scratch = [0; 2];
 /// let mut tally = showrule::Tally::default();
 /// let recording = showrule::Recording { samples: &[0, 1], start: 1, driven: 1 };
@@ -270,7 +304,7 @@ pub fn judge(table: &[u32], recording: Recording, scratch: &mut [u64], tally: &m
 /// no tally, and makes the same checks and rows as [`judge`] otherwise. A refusal changes nothing.
 ///
 /// ```
-/// let finally = [0x3000_0001, 0xD000_0001];
+/// let finally = [0x0000_0002, 0x3000_0001, 0xD000_0001];
 /// let mut scratch = [0; 2];
 /// let recording = showrule::Recording { samples: &[1, 0], start: 1, driven: 1 };
 /// assert_eq!(showrule::row(&finally, recording, &mut scratch)?, [0b01]);

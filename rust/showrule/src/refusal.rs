@@ -1,5 +1,5 @@
 //! Why a call is refused: its number and place in the documents, and a sentence that says what to look at.
-use crate::{scratch_words, Tally, MOST_DRIVEN, MOST_SAMPLES, MOST_TEXT_BYTES, MOST_UNTIL_LIKE, MOST_WRITTEN_WORDS};
+use crate::{scratch_words, words_of, Tally, MOST_DRIVEN, MOST_SAMPLES, MOST_TEXT_BYTES, MOST_UNTIL_LIKE, MOST_WRITTEN_WORDS};
 use std::fmt;
 
 /// A field of a word.
@@ -17,7 +17,11 @@ pub enum Side {
 #[non_exhaustive]
 #[allow(missing_docs)]
 pub enum Refusal {
-    NoWord,
+    /// The slice is empty, or the count of its header is 0.
+    NoWord {
+        empty: bool,
+    },
+    /// The header counts so many words.
     TooManyWords {
         words: usize,
         limit: usize,
@@ -96,6 +100,17 @@ pub enum Refusal {
     TooManyDriven {
         driven: usize,
     },
+    /// The count of the header is not the number of words after it.
+    CountDiffers {
+        count: usize,
+        words: usize,
+    },
+    /// The header has another kind than 0, or another class than the table: `written` says whether a word is of kind 12 to 15.
+    WrongHeader {
+        kind: u32,
+        class: u32,
+        written: bool,
+    },
     /// A number that this crate does not know.
     Other {
         number: u32,
@@ -127,14 +142,16 @@ impl Call<'_> {
     }
 
     fn refusal(self, number: u32, place: usize) -> Refusal {
-        let word = place.checked_sub(1).and_then(|i| self.table.get(i)).copied().unwrap_or(0);
+        // words are numbered from 1 after the header; at place 0 this is the header itself
+        let word = self.table.get(place).copied().unwrap_or(0);
         let kind = word >> 28;
         let (left, right) = (word >> 14 & 0x3FFF, word & 0x3FFF);
+        let words = words_of(self.table);
         let two_sided = matches!(kind, 5 | 6 | 8..=11 | 15);
         match number {
-            1 => Refusal::NoWord,
+            1 => Refusal::NoWord { empty: self.table.is_empty() },
             2 if self.text.is_some() => Refusal::TextOfTooManyWords,
-            2 => Refusal::TooManyWords { words: self.table.len(), limit: self.limit },
+            2 => Refusal::TooManyWords { words: right as usize, limit: self.limit },
             3 => Refusal::KindZero { place },
             4 => Refusal::NotPlain { place, kind },
             5 => Refusal::OperandZero { place, side: if two_sided && left == 0 { Side::Left } else { Side::Right } },
@@ -143,19 +160,21 @@ impl Call<'_> {
             7 => Refusal::LetterOutOfRange { place, letter: right },
             8 if left != 0 => Refusal::FieldNotZero { place, side: Side::Left, value: left },
             8 => Refusal::FieldNotZero { place, side: Side::Right, value: right },
-            9 => Refusal::Repeated { place, earlier: self.table.iter().position(|&w| w == word).map_or(0, |i| i + 1) },
+            9 => Refusal::Repeated { place, earlier: words.iter().position(|&w| w == word).map_or(0, |i| i + 1) },
             10 => Refusal::Unused { place },
             11 => Refusal::TooManyUntilLike { place, of_plain_form: self.of_plain_form },
             12 => Refusal::ResultTooShort { room: self.room },
             13 => Refusal::NoSample,
             14 => Refusal::TooManySamples { samples: self.samples },
             15 => Refusal::LoopStartOutside { start: self.start, samples: self.samples },
-            16 => Refusal::ScratchTooShort { room: self.room, needed: scratch_words(self.table.len(), self.samples) },
+            16 => Refusal::ScratchTooShort { room: self.room, needed: scratch_words(words.len(), self.samples) },
             17 => Refusal::TallyFull { judged: self.tally.judged, held: self.tally.held },
             19 => Refusal::NoRule { place, ends_early: self.text.is_some_and(|text| place > text.len()) },
             20 => Refusal::TextTooLong { bytes: self.text.map_or(0, |text| text.len()) },
             21 => Refusal::LetterNotDriven { place, letter: right, driven: self.driven },
             22 => Refusal::TooManyDriven { driven: self.driven },
+            23 => Refusal::CountDiffers { count: right as usize, words: words.len() },
+            24 => Refusal::WrongHeader { kind, class: left, written: words.iter().any(|word| word >> 28 >= 12) },
             _ => Refusal::Other { number, place },
         }
     }
@@ -165,7 +184,7 @@ impl Refusal {
     /// The documents' number.
     pub fn number(&self) -> u32 {
         match *self {
-            Refusal::NoWord => 1,
+            Refusal::NoWord { .. } => 1,
             Refusal::TooManyWords { .. } | Refusal::TextOfTooManyWords => 2,
             Refusal::KindZero { .. } => 3,
             Refusal::NotPlain { .. } => 4,
@@ -186,6 +205,8 @@ impl Refusal {
             Refusal::TextTooLong { .. } => 20,
             Refusal::LetterNotDriven { .. } => 21,
             Refusal::TooManyDriven { .. } => 22,
+            Refusal::CountDiffers { .. } => 23,
+            Refusal::WrongHeader { .. } => 24,
             Refusal::Other { number, .. } => number,
         }
     }
@@ -222,7 +243,8 @@ impl fmt::Display for Side {
 impl fmt::Display for Refusal {
     fn fmt(&self, f: &mut fmt::Formatter) -> fmt::Result {
         match *self {
-            Refusal::NoWord => write!(f, "the table has no word: a rule has at least one"),
+            Refusal::NoWord { empty: true } => write!(f, "the table is empty: a rule has a header and at least one word"),
+            Refusal::NoWord { empty: false } => write!(f, "the header's count is 0, and a rule has at least one word"),
             Refusal::TooManyWords { words, limit } => {
                 write!(f, "the table has {words} words, and this step takes at most {limit}: make the rule shorter")
             }
@@ -285,6 +307,21 @@ impl fmt::Display for Refusal {
             }
             Refusal::TooManyDriven { driven } => {
                 write!(f, "the recording says that it drives {driven} letters, and there are {MOST_DRIVEN}")
+            }
+            Refusal::CountDiffers { count, words } => {
+                write!(
+                    f,
+                    "the header's count is {count}, and the number of words after it is {words}: the table was cut, or added to"
+                )
+            }
+            Refusal::WrongHeader { kind, .. } if kind != 0 => {
+                write!(f, "the header is of kind {kind}, and a header is of kind 0: look whether the table begins with one")
+            }
+            Refusal::WrongHeader { class, written: true, .. } => {
+                write!(f, "the header has class {class:02X}, and that of a table with kinds 12 to 15 is 0")
+            }
+            Refusal::WrongHeader { class, .. } => {
+                write!(f, "the header has class {class:02X}, which is not the class byte of the last word")
             }
             Refusal::Other { number, place } => write!(f, "refused {number} at {place}"),
         }

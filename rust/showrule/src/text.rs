@@ -1,6 +1,6 @@
 //! Rules typed as text and printed as text.
 use crate::refusal::Call;
-use crate::{check, ffi, Refusal, MOST_WORDS, MOST_WRITTEN_WORDS};
+use crate::{check, ffi, words_of, Refusal, MOST_WORDS, WRITTEN_ROOM};
 use std::fmt;
 use std::ops::Deref;
 use std::str::FromStr;
@@ -8,45 +8,45 @@ use std::str::FromStr;
 /// The written table of a text: the front part of `result`. What stands past it stays. The text is a rule of `true`, `false`, `p1` to
 /// `p32`, the prefixes `! X F G`, and `& | -> U W R M` between two rules, always in round brackets; only spaces may stand round these,
 /// so that a line end is no part of a text. Words are numbered by first need, an identical word used again. Refused as 12, every word
-/// of the slice is 0; refused otherwise, it is as it was. 64 words are always enough.
+/// of the slice is 0; refused otherwise, it is as it was. 65 words are always enough.
 ///
 /// ```
-/// let mut result = [0; 64];
-/// assert_eq!(showrule::from_text(b"(p1 U !p1)", &mut result)?, [0x3000_0001, 0xC000_0001, 0x8000_4002]);
+/// let mut result = [0; showrule::WRITTEN_ROOM];
+/// assert_eq!(showrule::from_text(b"(p1 U !p1)", &mut result)?, [0x0000_0003, 0x3000_0001, 0xC000_0001, 0x8000_4002]);
 /// let refusal = showrule::from_text(b"p1 U p2", &mut result).unwrap_err();
 /// assert_eq!((refusal.number(), refusal.place()), (19, 4));
 /// # Ok::<(), showrule::Refusal>(())
 /// ```
 pub fn from_text<'a>(text: &[u8], result: &'a mut [u32]) -> Result<&'a [u32], Refusal> {
-    let (mut words, mut place) = (0, 0);
+    let (mut length, mut place) = (0, 0);
     let number =
-        unsafe { ffi::showrule_text(text.as_ptr(), text.len(), result.as_mut_ptr(), result.len(), &mut words, &mut place) };
+        unsafe { ffi::showrule_text(text.as_ptr(), text.len(), result.as_mut_ptr(), result.len(), &mut length, &mut place) };
     Call { text: Some(text), room: result.len(), ..Call::default() }.answer(number, place)?;
-    Ok(&result[..words])
+    Ok(&result[..length])
 }
 
-/// A written table of at most 64 words, read from a text with `parse`. It is its words wherever a table is asked for, and prints
-/// as text.
+/// A written table of at most 64 words, read from a text with `parse`. It is its header and words wherever a table is asked for, and
+/// prints as text.
 ///
 /// ```
 /// let rule: showrule::Rule = "  ( p1 & Xp1 )".parse()?;
-/// assert_eq!(*rule, [0x3000_0001, 0x7000_0001, 0x5000_4002]);
+/// assert_eq!(*rule, [0x001F_8003, 0x3000_0001, 0x7000_0001, 0x5000_4002]);
 /// assert_eq!(rule.to_string(), "(p1 & Xp1)");
 /// # Ok::<(), showrule::NotRead>(())
 /// ```
 #[derive(Clone, Copy)]
 pub struct Rule {
-    words: [u32; MOST_WRITTEN_WORDS],
-    count: usize,
+    table: [u32; WRITTEN_ROOM],
+    length: usize,
 }
 
 impl FromStr for Rule {
     type Err = NotRead;
 
     fn from_str(text: &str) -> Result<Rule, NotRead> {
-        let mut words = [0; MOST_WRITTEN_WORDS];
-        match from_text(text.as_bytes(), &mut words) {
-            Ok(table) => Ok(Rule { count: table.len(), words }),
+        let mut table = [0; WRITTEN_ROOM];
+        match from_text(text.as_bytes(), &mut table).map(|made| made.len()) {
+            Ok(length) => Ok(Rule { table, length }),
             Err(refusal) => Err(NotRead { refusal, text: text.into() }),
         }
     }
@@ -56,7 +56,7 @@ impl Deref for Rule {
     type Target = [u32];
 
     fn deref(&self) -> &[u32] {
-        &self.words[..self.count]
+        &self.table[..self.length]
     }
 }
 
@@ -77,7 +77,7 @@ impl fmt::Debug for Rule {
 /// As text, which is never much longer than the one that was read: only spaces differ.
 impl fmt::Display for Rule {
     fn fmt(&self, f: &mut fmt::Formatter) -> fmt::Result {
-        f.write_str(&printed(self))
+        f.write_str(&printed(words_of(self)))
     }
 }
 
@@ -164,19 +164,20 @@ impl std::error::Error for NotPrinted {}
 ///
 /// ```
 /// use showrule::{to_text, NotPrinted};
-/// assert_eq!(to_text(&[0x3000_0001, 0xD000_0001, 0xE000_0002], 100)?, "GFp1");
+/// assert_eq!(to_text(&[0x0000_0003, 0x3000_0001, 0xD000_0001, 0xE000_0002], 100)?, "GFp1");
 /// // each word the one before with itself
-/// let chain: Vec<u32> = (0..=60).map(|n| if n == 0 { 0x3000_0001 } else { 0x5000_0000 + (n << 14) + n }).collect();
+/// let mut chain = vec![showrule::header(0x7F, 61), 0x3000_0001];
+/// chain.extend((1..=60).map(|n| 0x5000_0000 + (n << 14) + n));
 /// assert_eq!(to_text(&chain, 1000), Err(NotPrinted::TooLong { bytes: 8_070_450_532_247_928_827, limit: 1000 }));
 /// # Ok::<(), NotPrinted>(())
 /// ```
 pub fn to_text(table: &[u32], limit: usize) -> Result<String, NotPrinted> {
     check(table, false, MOST_WORDS).map_err(NotPrinted::Refused)?;
-    let bytes = text_bytes(table);
+    let bytes = text_bytes(words_of(table));
     if bytes > limit || bytes == usize::MAX {
         return Err(NotPrinted::TooLong { bytes, limit });
     }
-    Ok(printed(table))
+    Ok(printed(words_of(table)))
 }
 
 const SYMBOLS: [&str; 16] = ["", "false", "true", "p", "!p", "&", "|", "X", "U", "W", "R", "M", "!", "F", "G", "->"];
@@ -202,10 +203,10 @@ fn shape(word: u32) -> (&'static str, Shape) {
     (SYMBOLS[kind as usize], shape)
 }
 
-/// The bytes of a table's text, in one rising pass.
-fn text_bytes(table: &[u32]) -> usize {
-    let mut bytes: Vec<usize> = Vec::with_capacity(table.len());
-    for &word in table {
+/// The bytes of the text of a table with these words, in one rising pass.
+fn text_bytes(words: &[u32]) -> usize {
+    let mut bytes: Vec<usize> = Vec::with_capacity(words.len());
+    for &word in words {
         let (symbol, shape) = shape(word);
         bytes.push(match shape {
             Shape::Constant => symbol.len(),
@@ -217,19 +218,19 @@ fn text_bytes(table: &[u32]) -> usize {
     bytes[bytes.len() - 1]
 }
 
-/// The text of a table that passes the checks.
-fn printed(table: &[u32]) -> String {
+/// The text of a table that passes the checks, and has these words.
+fn printed(words: &[u32]) -> String {
     enum Next {
         Word(usize),
         Symbol(&'static str),
     }
     let mut text = String::new();
     // what is still to be printed, the last first: no deep rule needs a deep stack
-    let mut to_print = vec![Next::Word(table.len())];
+    let mut to_print = vec![Next::Word(words.len())];
     while let Some(next) = to_print.pop() {
         match next {
             Next::Symbol(symbol) => text.push_str(symbol),
-            Next::Word(n) => match shape(table[n - 1]) {
+            Next::Word(n) => match shape(words[n - 1]) {
                 (symbol, Shape::Constant) => text.push_str(symbol),
                 (symbol, Shape::Letter(letter)) => text.push_str(&format!("{symbol}{letter}")),
                 (symbol, Shape::Prefix(a)) => {

@@ -6,25 +6,25 @@ use std::ptr::{null, null_mut};
 fn empty_slices() {
     let (mut words, mut place, mut from) = (9, 9, 9);
     let (mut judged, mut held, mut holds, mut moments, mut failing) = (5, 3, true, 9, 9);
-    let letter = [0x3000_0001u32];
+    let letter = [0x001F_C001u32, 0x3000_0001];
     unsafe {
         assert_eq!((showrule_check(null(), 0, false, 64, &mut place), place), (1, 0));
         assert_eq!(showrule_classify(null(), 0, null_mut(), 0, &mut place), 1);
-        assert_eq!(showrule_classify(letter.as_ptr(), 1, null_mut(), 0, &mut place), 12);
+        assert_eq!(showrule_classify(letter.as_ptr(), 2, null_mut(), 0, &mut place), 12);
         assert_eq!((showrule_text(null(), 0, null_mut(), 0, &mut words, &mut place), words, place), (19, 0, 1));
         assert_eq!((showrule_text(b"p1".as_ptr(), 2, null_mut(), 0, &mut words, &mut place), words, place), (12, 0, 0));
         assert_eq!(showrule_plain(null(), 0, null_mut(), 0, &mut words, &mut place), 1);
-        assert_eq!(showrule_plain(letter.as_ptr(), 1, null_mut(), 0, &mut words, &mut place), 12);
-        assert_eq!(showrule_normal(letter.as_ptr(), 1, null_mut(), 0, &mut words, &mut place), 12);
+        assert_eq!(showrule_plain(letter.as_ptr(), 2, null_mut(), 0, &mut words, &mut place), 12);
+        assert_eq!(showrule_normal(letter.as_ptr(), 2, null_mut(), 0, &mut words, &mut place), 12);
         assert_eq!((showrule_dialect(null(), 0, null_mut(), 0, &mut words, &mut place), words, place), (1, 0, 0));
-        assert_eq!((showrule_dialect(letter.as_ptr(), 1, null_mut(), 0, &mut words, &mut place), words, place), (12, 0, 0));
-        assert_eq!(showrule_form(letter.as_ptr(), 1, null_mut(), 0, null_mut(), 0, &mut words, &mut place), 12);
-        let mut plain = [0u32; 1];
-        assert_eq!(showrule_form(letter.as_ptr(), 1, plain.as_mut_ptr(), 1, null_mut(), 0, &mut words, &mut place), 12);
+        assert_eq!((showrule_dialect(letter.as_ptr(), 2, null_mut(), 0, &mut words, &mut place), words, place), (12, 0, 0));
+        assert_eq!(showrule_form(letter.as_ptr(), 2, null_mut(), 0, null_mut(), 0, &mut words, &mut place), 12);
+        let mut plain = [0u32; 2];
+        assert_eq!(showrule_form(letter.as_ptr(), 2, plain.as_mut_ptr(), 2, null_mut(), 0, &mut words, &mut place), 12);
         assert_eq!((plain, words, place), (letter, 0, 0));
         let number = showrule_judge(
             letter.as_ptr(),
-            1,
+            2,
             null(),
             0,
             0,
@@ -39,7 +39,7 @@ fn empty_slices() {
             &mut place,
         );
         assert_eq!((number, judged, held, holds, moments, failing), (13, 5, 3, false, 0, 0));
-        let number = showrule_row(letter.as_ptr(), 1, letter.as_ptr(), 1, 0, 1, null_mut(), 0, &mut from, &mut words, &mut place);
+        let number = showrule_row(letter.as_ptr(), 2, [1].as_ptr(), 1, 0, 1, null_mut(), 0, &mut from, &mut words, &mut place);
         assert_eq!((number, from, words), (16, 0, 0));
     }
 }

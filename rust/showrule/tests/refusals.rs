@@ -1,17 +1,21 @@
 //! Every refusal of a table, a form and a recording: its number, its place and its sentence.
-use showrule::{check, classify, form, judge, normal_form, plain_form, row, Recording, Refusal, Tally};
+use showrule::{check, classify, dialect, form, judge, normal_form, plain_form, row, Recording, Refusal, Tally};
 
 fn is<T: std::fmt::Debug>(answer: Result<T, Refusal>, number: u32, place: usize, sentence: &str) {
     let refusal = answer.expect_err("it is refused");
     assert_eq!((refusal.number(), refusal.place(), refusal.to_string().as_str()), (number, place, sentence));
 }
 
-const ALWAYS: [u32; 2] = [0x3000_0001, 0xE000_0001];
+const ALWAYS: [u32; 3] = [0x0000_0002, 0x3000_0001, 0xE000_0001];
+
+/// Words under a header that counts them; of a class that no refusal below comes to.
+fn counted(words: &[u32]) -> Vec<u32> {
+    [&[words.len() as u32], words].concat()
+}
 
 #[test]
 fn tables() {
-    let check = |table: &[u32]| check(table, false, 64);
-    is(check(&[]), 1, 0, "the table has no word: a rule has at least one");
+    let check = |words: &[u32]| check(&counted(words), false, 64);
     is(check(&[0; 65]), 2, 0, "the table has 65 words, and this step takes at most 64: make the rule shorter");
     is(check(&[0]), 3, 1, "word 1 is of kind 0, which means nothing: its top 4 bits are 0");
     is(check(&[0x2000_0000, 0x7000_0000]), 5, 2, "word 2 names no operand: its right field is 0");
@@ -27,6 +31,29 @@ fn tables() {
 }
 
 #[test]
+fn headers() {
+    let check = |table: &[u32]| check(table, false, 64);
+    is(check(&[]), 1, 0, "the table is empty: a rule has a header and at least one word");
+    is(check(&[0]), 1, 0, "the header's count is 0, and a rule has at least one word");
+    is(check(&[0x2000_0000, 0x7000_0001]), 1, 0, "the header's count is 0, and a rule has at least one word");
+    is(check(&[65]), 2, 0, "the table has 65 words, and this step takes at most 64: make the rule shorter");
+    let cut = "the header's count is 2, and the number of words after it is 1: the table was cut, or added to";
+    is(check(&ALWAYS[..2]), 23, 0, cut);
+    let added = "the header's count is 1, and the number of words after it is 2: the table was cut, or added to";
+    is(check(&[1, 0, 0]), 23, 0, added);
+    let kind = "the header is of kind 3, and a header is of kind 0: look whether the table begins with one";
+    is(check(&[0x3000_0001, 0x3000_0002]), 24, 0, kind);
+    let class = "the header has class 7F, and that of a table with kinds 12 to 15 is 0";
+    is(check(&[0x001F_C002, ALWAYS[1], ALWAYS[2]]), 24, 0, class);
+    let class = "the header has class 00, which is not the class byte of the last word";
+    is(check(&[1, 0x3000_0001]), 24, 0, class);
+    // before what a step adds
+    is(dialect(&[1, 0x3000_0001], &mut []), 24, 0, class);
+    is(classify(&[1, 0x3000_0001], &mut []), 24, 0, class);
+    is(row(&[1, 0x3000_0001], one(&[], 0), &mut []), 24, 0, class);
+}
+
+#[test]
 fn forms() {
     is(
         normal_form(&ALWAYS, &mut [0; 9]),
@@ -34,15 +61,16 @@ fn forms() {
         2,
         "word 2 is of kind 14, which a plain table does not have: make the plain form first",
     );
-    is(classify(&[0x3000_0001], &mut []), 12, 0, "the result does not fit the slice of 0 that was lent for it");
-    is(plain_form(&ALWAYS, &mut [7; 2]), 12, 0, "the result does not fit the slice of 2 that was lent for it");
-    is(form(&ALWAYS, &mut [7; 2], &mut [7; 20]), 12, 0, "the result does not fit the slice of 2 that was lent for it");
-    is(form(&ALWAYS, &mut [7; 3], &mut [7; 9]), 12, 0, "the result does not fit the slice of 9 that was lent for it");
-    let mut nine = vec![0x3000_0001, 0x3000_0002];
+    is(classify(&[0x001F_C001, 0x3000_0001], &mut []), 12, 0, "the result does not fit the slice of 0 that was lent for it");
+    is(plain_form(&ALWAYS, &mut [7; 3]), 12, 0, "the result does not fit the slice of 3 that was lent for it");
+    is(form(&ALWAYS, &mut [7; 3], &mut [7; 20]), 12, 0, "the result does not fit the slice of 3 that was lent for it");
+    is(form(&ALWAYS, &mut [7; 4], &mut [7; 10]), 12, 0, "the result does not fit the slice of 10 that was lent for it");
+    assert_eq!(form(&ALWAYS, &mut [7; 4], &mut [7; 11]).map(|form| form.len()), Ok(11));
+    let mut nine = vec![0x001E_800B, 0x3000_0001, 0x3000_0002];
     nine.extend((1..=9).map(|n| 0x8000_0000 + ((if n == 1 { 1 } else { n + 1 }) << 14) + 2));
     is(normal_form(&nine, &mut [0; 9]), 11, 11, "word 11 is the ninth until-like word, and a rule may have 8: split the rule");
     is(
-        form(&nine, &mut [0; 130], &mut [0; 9]),
+        form(&nine, &mut [0; 131], &mut [0; 9]),
         11,
         11,
         "word 11 of the plain form is the ninth until-like word, and a rule may have 8: split the rule",
@@ -70,7 +98,7 @@ fn recordings() {
 
 #[test]
 fn driven_letters() {
-    let or = [0x3000_0003, 0x4000_0005, 0x6000_4002];
+    let or = [0x001F_C003, 0x3000_0003, 0x4000_0005, 0x6000_4002];
     let judge =
         |table: &[u32], driven| judge(table, Recording { samples: &[0], start: 0, driven }, &mut [0; 3], &mut Tally::default());
     is(judge(&or, 0), 21, 1, "word 1 names letter 3, and the recording drives no letter");
@@ -78,5 +106,5 @@ fn driven_letters() {
     is(judge(&or, 4), 21, 2, "word 2 names letter 5, and the recording drives letters 1 to 4");
     is(judge(&or, 33), 22, 0, "the recording says that it drives 33 letters, and there are 32");
     assert!(judge(&or, 5).unwrap().holds);
-    assert!(judge(&[0x2000_0000], 0).unwrap().holds);
+    assert!(judge(&[0x001F_C001, 0x2000_0000], 0).unwrap().holds);
 }

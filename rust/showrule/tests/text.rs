@@ -1,5 +1,5 @@
 //! Rules typed as text and printed as text, and what a text that is not read says.
-use showrule::{form, from_text, to_text, NotPrinted, Refusal, Rule};
+use showrule::{form, from_text, header, to_text, NotPrinted, Refusal, Rule};
 
 /// What an error prints, and its refusal's number and place.
 fn not_read(text: &str) -> (u32, usize, String) {
@@ -11,15 +11,15 @@ fn not_read(text: &str) -> (u32, usize, String) {
 #[test]
 fn rules() {
     let rule: Rule = "G(p1 -> Fp2)".parse().unwrap();
-    assert_eq!(*rule, [0x3000_0001, 0x3000_0002, 0xD000_0002, 0xF000_4003, 0xE000_0004]);
+    assert_eq!(*rule, [0x0000_0005, 0x3000_0001, 0x3000_0002, 0xD000_0002, 0xF000_4003, 0xE000_0004]);
     assert_eq!(rule.to_string(), "G(p1 -> Fp2)");
     assert_eq!(format!("{rule:?}"), "Rule(G(p1 -> Fp2))");
     assert_eq!(" G ( p1->F p2 ) ".parse(), Ok(rule));
     let every = "((true U false) & ((p1 W p32) | ((Xp2 R Fp3) -> (G!p4 M !!p5))))";
     assert_eq!(every.parse::<Rule>().unwrap().to_string(), every);
-    let (mut plain, mut result) = ([0; 130], [0; 4096]);
+    let (mut plain, mut result) = ([0; 131], [0; 4097]);
     let of_text = form(&rule, &mut plain, &mut result).unwrap().to_vec();
-    let table = [0x3000_0002, 0xD000_0001, 0x3000_0001, 0xF000_C002, 0xE000_0004];
+    let table = [0x0000_0005, 0x3000_0002, 0xD000_0001, 0x3000_0001, 0xF000_C002, 0xE000_0004];
     assert_eq!(form(&table, &mut plain, &mut result).unwrap(), of_text);
 }
 
@@ -68,21 +68,24 @@ fn refusals() {
     assert_eq!(from_text(b"p", &mut result), Err(Refusal::NoRule { place: 2, ends_early: true }));
     assert_eq!(from_text(b"p 1", &mut result), Err(Refusal::NoRule { place: 2, ends_early: false }));
     assert_eq!(result, [7; 20]);
-    assert_eq!(from_text(b"Xp1", &mut result).unwrap(), [0x3000_0001, 0x7000_0001]);
-    assert_eq!(result[2..], [7; 18]);
-    assert_eq!(from_text(&many.as_bytes()[45..], &mut result).unwrap().len(), 20);
-    assert_eq!(from_text(&many.as_bytes()[44..], &mut result), Err(Refusal::ResultTooShort { room: 20 }));
+    assert_eq!(from_text(b"Xp1", &mut result).unwrap(), [0x001F_8002, 0x3000_0001, 0x7000_0001]);
+    assert_eq!(result[3..], [7; 17]);
+    assert_eq!(from_text(&many.as_bytes()[46..], &mut result).unwrap().len(), 20);
+    assert_eq!(from_text(&many.as_bytes()[45..], &mut result), Err(Refusal::ResultTooShort { room: 20 }));
     assert_eq!(result, [0; 20]);
 }
 
 #[test]
 fn printing() {
-    assert_eq!(to_text(&[0x4000_0020], 4).unwrap(), "!p32");
-    assert_eq!(to_text(&[0x4000_0020], 3), Err(NotPrinted::TooLong { bytes: 4, limit: 3 }));
-    let refused = to_text(&[0x2000_0000, 0x7000_0000], 100).unwrap_err();
+    assert_eq!(to_text(&[0x001F_C001, 0x4000_0020], 4).unwrap(), "!p32");
+    assert_eq!(to_text(&[0x001F_C001, 0x4000_0020], 3), Err(NotPrinted::TooLong { bytes: 4, limit: 3 }));
+    let refused = to_text(&[0x0000_0002, 0x2000_0000, 0x7000_0000], 100).unwrap_err();
     assert_eq!(refused.to_string(), "word 2 names no operand: its right field is 0");
     // each word the one before with itself: 7 * 2^n - 5 bytes
-    let ands = |n: u32| (0..=n).map(|n| if n == 0 { 0x3000_0001 } else { 0x5000_0000 + (n << 14) + n }).collect::<Vec<u32>>();
+    let ands = |n: u32| {
+        let words = (0..=n).map(|n| if n == 0 { 0x3000_0001 } else { 0x5000_0000 + (n << 14) + n });
+        [header(0x7F, n as usize + 1)].into_iter().chain(words).collect::<Vec<u32>>()
+    };
     assert_eq!(to_text(&ands(17), 1 << 20).unwrap().len(), 917_499);
     let too_long = to_text(&ands(18), 1 << 20).unwrap_err();
     assert_eq!(too_long.to_string(), "the text of the table would have 1835003 bytes, and the limit is 1048576");

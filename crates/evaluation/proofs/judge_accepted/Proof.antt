@@ -3,7 +3,8 @@ use Prim.Native.Nat.{_+_, _-_, _*_, _≤_}
 use borrow.Author.Needs.{needs}
 use lib.ListN.{length}
 use native.Mathlib.Omega.{arith}
-use Rattle.evaluation.proofs.LastRow.{judge-few, some-word, last-small, last-end, last-for, last-row, accepted-reply}
+use mathlib.Core.Path.{refl}
+use Rattle.evaluation.proofs.LastRow.{some-word, last-small, last-end, last-for, last-row, accepted-answer}
 use Rattle.row_filling.proofs.WordRow.{fillable-length}
 use Rattle.row_filling.specs.Filling.{Fillable}
 use Rattle.evaluation.proofs.judge_accepted.Statement.{statement}
@@ -14,7 +15,7 @@ still-fillable : (c : tie.After-fill-rows)
 still-fillable c = fillable-length _ _ (c .fill-rows .kept .1 .1 .1 .0) (c .before .before .before .before .before .pre)
 
 small : (c : tie.After-row-words) → (length (c .before .before .before .before .before .before .before .before .args .table .now) - 1) * c .row-words .result + c .row-words .result ≤ 1048576
-small c = last-small _ _ _ _ _ (c .before .before .before .before .before .before .before .before .pre) (c .row-words .ensures)
+small c = last-small _ _ _ _ _ _ (c .before .before .before .before .before .before .before .before .pre) refl (c .row-words .ensures)
 
 fill-rows-requires : tie.Need-fill-rows-requires
 fill-rows-requires c κs = c .before .before .before .before .pre
@@ -23,7 +24,7 @@ row-words-requires : tie.Need-row-words-requires
 row-words-requires c κs = c .before .before .before .before .before .before .before .pre .few
 
 sub-from : tie.Need-sub-from
-sub-from c = some-word _ _ _ _ _ (c .before .before .before .before .before .before .before .before .pre) (c .row-words .ensures)
+sub-from c = some-word _ _ _ _ _ _ (c .before .before .before .before .before .before .before .before .pre) refl (c .row-words .ensures)
 
 mul-from : tie.Need-mul-from
 mul-from c = omega (arith, small c)
@@ -35,17 +36,16 @@ mul-read-answer : tie.Need-mul-read-answer
 mul-read-answer c = omega (arith, small c)
 
 part-read-answer-end : tie.Need-part-read-answer-end
-part-read-answer-end c = last-end _ _ _ _ _ (still-fillable (c .before .before .before .before)) (c .before .row-words .ensures)
+part-read-answer-end c = last-end _ _ _ _ _ _ (still-fillable (c .before .before .before .before)) refl (c .before .row-words .ensures)
 
 read-answer-requires : tie.Need-read-answer-requires
-read-answer-requires c κs = last-for _ _ _ _ _ (still-fillable (c .before .before .before .before .before)) (c .before .before .row-words .ensures)
+read-answer-requires c κs = last-for _ _ _ _ _ _ (still-fillable (c .before .before .before .before .before)) refl (c .before .before .row-words .ensures)
 
 returns : tie.Need-returns
 returns c = (
-  λ driven e.
-      let few = judge-few _ _ _ driven _ _ e in
-      accepted-reply _ _ _ driven _ _ _ _ e
-      (last-row _ _ _ _ _ (still-fillable (c .before .before .before .before .before .before)) (c .before .before .before .row-words .ensures) driven few _ (c .before .before .before .before .before .before .fill-rows .ensures driven few))
+  λ driven few e.
+      accepted-answer _ _ _ driven _ _ _ (c .before .before .before .before .before .before .before .before .before .before .before .pre .inside) few e
+      (last-row _ _ _ _ _ _ (still-fillable (c .before .before .before .before .before .before)) refl (c .before .before .before .row-words .ensures) driven few _ (c .before .before .before .before .before .before .fill-rows .ensures driven few))
       (c .read-answer .ensures),
   c .before .before .before .before .before .before .fill-rows .ensures,
 )

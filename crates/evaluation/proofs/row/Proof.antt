@@ -1,12 +1,15 @@
 -- Accepted, the part is the last row; refused, it is empty, with the refusal's number and place.
-use Prim.Native.Nat.{_+_, _-_, _*_, _≤_}
+use Prim.Native.Nat.{ℕ, _+_, _-_, _*_, _≤_}
 use borrow.Author.Needs.{needs}
 use lib.ListN.{length}
 use mathlib.Core.Path.{_≡_, sym, ap, _∙_}
 use native.Mathlib.Omega.{arith}
-use Rattle.evaluation.proofs.LastRow.{some-word, last-small, last-end, last-row, accepted-scratch, accepted-part, refused-part, accepted-at, refused-at}
+use mathlib.Core.List.{List}
+use denote.Ref.{now}
+use Rattle.evaluation.proofs.LastRow.{words-before, last-small, last-end, last-row, accepted-scratch, accepted-part, refused-part, accepted-at, refused-at}
 use Rattle.row_filling.proofs.WordRow.{fillable-length}
-use Rattle.evaluation.proofs.Accepted.{accepted-facts, accepted-fillable}
+use Rattle.evaluation.proofs.Accepted.{accepted-facts, accepted-fillable, accepted-words}
+use Rattle.table.specs.Header.{body}
 use Rattle.row_filling.specs.Filling.{Fillable}
 use Rattle.evaluation.specs.Judging.{rowOutcome}
 use Rattle.refusals.specs.declared.Report.{Report}
@@ -16,26 +19,30 @@ use Rattle.evaluation.proofs.row.Statement.{statement}
 use Rattle.evaluation.proofs.row.Tie as tie
 
 -- the checks accept, before the rows are written and after it
-accepted : (c : tie.After-enum-told)
-    → rowOutcome (c .before .before .before .before .before .before .before .before .before .args .table .now) (c .before .before .before .before .before .before .before .before .before .args .samples .now) (c .before .before .before .before .before .before .before .before .before .args .start) (c .before .before .before .before .before .before .before .before .before .args .driven) (c .before .before .before .before .before .before .before .before .before .args .scratch .now) ≡ Accepted
-accepted c = sym (c .before .before .before .before .fill .ensures .0) ∙ c .enum-told .given .1
+module _ (c : tie.After-enum-told) where
+  abbrev start : tie.Start
+  start = c .before .before .before .before .before .before .before .before .before
 
-fillable : (c : tie.After-enum-told)
-    → Fillable (c .before .before .before .before .before .before .before .before .before .args .table .now) (c .before .before .before .before .before .before .before .before .before .args .samples .now) (c .before .before .before .before .before .before .before .before .before .args .start) (c .before .before .before .before .before .before .before .before .before .args .scratch .now)
-fillable c = accepted-fillable _ _ _ _ _ (accepted c)
+  abbrev t : List ℕ
+  t = now (start .args .table)
 
-still-fillable : (c : tie.After-enum-told)
-    → Fillable (c .before .before .before .before .before .before .before .before .before .args .table .now) (c .before .before .before .before .before .before .before .before .before .args .samples .now) (c .before .before .before .before .before .before .before .before .before .args .start) (c .before .before .before .before .fill .last .1 .1 .1 .1 .0)
-still-fillable c = fillable-length _ _ (c .before .before .before .before .fill .kept .1 .1 .1 .1 .0) (fillable c)
+  accepted : rowOutcome t (now (start .args .samples)) (start .args .start) (start .args .driven) (now (start .args .scratch)) ≡ Accepted
+  accepted = sym (c .before .before .before .before .fill .ensures .0) ∙ c .enum-told .given .1
 
-small : (c : tie.After-row-words) → (length (c .before .before .before .before .before .before .before .before .before .before .args .table .now) - 1) * c .row-words .result + c .row-words .result ≤ 1048576
-small c = last-small _ _ _ _ _ (fillable (c .before)) (c .row-words .ensures)
+  fillable : Fillable (body t) (now (start .args .samples)) (start .args .start) (now (start .args .scratch))
+  fillable = accepted-fillable _ _ _ _ _ accepted
+
+  still-fillable : Fillable (body t) (now (start .args .samples)) (start .args .start) (c .before .before .before .before .fill .last .1 .1 .1 .1 .0)
+  still-fillable = fillable-length _ _ (c .before .before .before .before .fill .kept .1 .1 .1 .1 .0) fillable
+
+small : (c : tie.After-row-words) → (length (t (c .before)) - 2) * c .row-words .result + c .row-words .result ≤ 1048576
+small c = last-small _ _ _ _ _ _ (fillable (c .before)) (words-before (t (c .before))) (c .row-words .ensures)
 
 row-words-requires : tie.Need-row-words-requires
 row-words-requires c κs = fillable c .few
 
 sub-from : tie.Need-sub-from
-sub-from c = some-word _ _ _ _ _ (fillable (c .before)) (c .row-words .ensures)
+sub-from c = omega (arith, accepted-words _ _ _ _ _ (accepted (c .before)))
 
 mul-from : tie.Need-mul-from
 mul-from c = omega (arith, small c)
@@ -47,7 +54,7 @@ mul-scratch : tie.Need-mul-scratch
 mul-scratch c = omega (arith, small c)
 
 part-scratch-end-2 : tie.Need-part-scratch-end-2
-part-scratch-end-2 c = last-end _ _ _ _ _ (still-fillable (c .before)) (c .row-words .ensures)
+part-scratch-end-2 c = last-end _ _ _ _ _ _ (still-fillable (c .before)) (words-before (t (c .before))) (c .row-words .ensures)
 
 returns : tie.Need-returns
 returns c =
@@ -59,7 +66,7 @@ returns-2 : tie.Need-returns-2
 returns-2 c =
     let told = accepted (c .before .before) in
     let rows = c .before .before .before .before .before .before .fill .ensures .1 ∙ sym (accepted-scratch _ _ _ _ _ (c .before .before .enum-told .given .1)) in (
-      last-row _ _ _ _ _ (still-fillable (c .before .before)) (c .before .row-words .ensures) _ (accepted-facts _ _ _ _ _ told .few-driven) _ rows ∙ accepted-part _ _ _ _ told,
+      last-row _ _ _ _ _ _ (still-fillable (c .before .before)) (words-before (t (c .before .before))) (c .before .row-words .ensures) _ (accepted-facts _ _ _ _ _ told .few-driven) _ rows ∙ accepted-part _ _ _ _ told,
       (accepted-at _ _ _ told (c .before .row-words .ensures), (ap outcomeNumber (sym told), ap outcomePlace (sym told))),
     )
 

@@ -1,21 +1,34 @@
 -- The rule's own row is the last of the rows that the row call writes.
+use Prim.Native.Nat.{ℕ}
 use borrow.Author.Needs.{needs}
-use mathlib.Core.Path.{sym, ap, _∙_}
+use mathlib.Core.Path.{_≡_, sym, ap, _∙_}
+use mathlib.Core.List.{List}
 use native.Mathlib.Omega.{arith}
+use denote.Ref.{now}
 use Rattle.refusals.specs.declared.Report.{Report}
-use Rattle.evaluation.proofs.Accepted.{accepted-fillable}
-use Rattle.evaluation.proofs.LastRow.{some-word, last-small}
+use Rattle.refusals.specs.declared.Outcome.the-variants.{Accepted}
+use Rattle.evaluation.specs.Judging.{rowOutcome}
+use Rattle.evaluation.proofs.Accepted.{accepted-fillable, accepted-words}
+use Rattle.evaluation.proofs.LastRow.{words-before, last-small}
 use Rattle.judge_calls.proofs.Replied.{row-accepted, row-refused, scratch-told}
 use Rattle.judge_calls.proofs.row.Statement.{statement}
 use Rattle.judge_calls.proofs.row.Tie as tie
 
+module _ (c : tie.After-row-words) where
+  abbrev start : tie.Start
+  start = c .before .before .before .before .before .before .before .before .before .before
+
+  abbrev t : List ℕ
+  t = now (start .args .table)
+
+  accepted : rowOutcome t (now (start .args .samples)) (start .args .start) (start .args .driven) (now (start .args .scratch)) ≡ Accepted
+  accepted = sym (c .before .before .before .before .before .fill .ensures .0) ∙ c .before .enum-told .given .1
+
 sub-from : tie.Need-sub-from
-sub-from c =
-    some-word _ _ _ _ _ (accepted-fillable _ _ _ _ _ (sym (c .before .before .before .before .before .fill .ensures .0) ∙ c .before .enum-told .given .1)) (c .row-words .ensures)
+sub-from c = omega (arith, accepted-words _ _ _ _ _ (accepted c))
 
 mul-from : tie.Need-mul-from
-mul-from c =
-    omega (arith, last-small _ _ _ _ _ (accepted-fillable _ _ _ _ _ (sym (c .before .before .before .before .before .fill .ensures .0) ∙ c .before .enum-told .given .1)) (c .row-words .ensures))
+mul-from c = omega (arith, last-small _ _ _ _ _ _ (accepted-fillable _ _ _ _ _ (accepted c)) (words-before (t c)) (c .row-words .ensures))
 
 returns : tie.Need-returns
 returns c =
@@ -28,7 +41,7 @@ returns c =
 returns-2 : tie.Need-returns-2
 returns-2 c =
     let e = c .before .before .before .before .before .fill .ensures in (
-      row-accepted (sym (e .0) ∙ c .before .enum-told .given .1) (c .row-words .ensures),
+      row-accepted (t c) (accepted c) (c .row-words .ensures),
       scratch-told _ _ _ _ _ (e .0) (e .1),
     )
 

@@ -1,9 +1,18 @@
-use native.Mathlib.Omega.{arith}
-use mathlib.Core.Path.{ap, _∙_}
 use borrow.Author.Needs.{needs}
+use Prim.Native.Nat.{ℕ, _≤_}
+use native.Mathlib.Omega.{arith}
+use mathlib.Core.Path.{_≡_, ap, subst}
+use mathlib.Core.Bool.{true}
+use mathlib.Core.List.{List}
+use lib.ListN.{length}
+use denote.Ref.{now}
+use Rattle.refusals.specs.declared.Outcome.the-variants.{Accepted}
 use Rattle.table.specs.declared.limits.Limits.{Limits}
-use Rattle.table.specs.Limits.{desk}
-use Rattle.normal_form.proofs.Ends.{table-at-desk, past-at-desk, table-refused, past-refused, all-passed, too-long, made}
+use Rattle.table.specs.Limits.{desk, plainLimit}
+use Rattle.table.specs.Header.{body, headedChecked}
+use Rattle.heading.proofs.Order.{whole-body, some-word}
+use Rattle.fixpoints.specs.Positions.{Past}
+use Rattle.normal_form.proofs.Ends.{table-at-desk, past-at-desk, table-refused, past-refused, all-passed, given}
 use Rattle.normal_form.proofs.normalise.Statement.{statement}
 use Rattle.normal_form.proofs.normalise.Tie as tie
 
@@ -13,25 +22,59 @@ mul-check c = omega (arith, ap (λ (l : Limits). l .written) (c .before .desk .e
 add-check : tie.Need-add-check
 add-check c = omega (arith, ap (λ (l : Limits). l .written) (c .before .desk .ensures))
 
-returns : tie.Need-returns
-returns c = let q = past-refused desk (c .before .before .before .before .before .before .before .before .before .args .table .now) (c .before .before .before .before .before .before .before .before .before .args .result .now) (table-at-desk _ (c .before .before .before .before .before .before .desk .ensures) (c .before .before .before .before .check .ensures) (c .before .before .enum-told .given .1)) (past-at-desk (c .before .before .before .before .before .before .desk .ensures) (c .before .past .ensures)) (c .if1 .taken) in (q .reply, q .slice)
+-- the table has passed the checks, and so has a word
+module _ (c : tie.After-enum-told) where
+  abbrev checked : tie.After-check
+  checked = c .before .before
 
-form-requires : tie.Need-form-requires
-form-requires c κs = all-passed desk (c .before .before .before .before .before .before .before .before .before .before .args .table .now) (c .before .before .before .before .before .before .before .before .before .before .args .result .now) (table-at-desk _ (c .before .before .before .before .before .before .before .desk .ensures) (c .before .before .before .before .before .check .ensures) (c .before .before .before .enum-told .given .1)) (past-at-desk (c .before .before .before .before .before .before .before .desk .ensures) (c .before .before .past .ensures)) (c .before .if1 .left) (record { positioned = omega arith; few = omega arith; drafted = omega arith })
+  abbrev start : tie.Start
+  start = checked .before .before .before .before .before
+
+  abbrev t : List ℕ
+  t = now (start .args .table)
+
+  abbrev result : List ℕ
+  result = now (start .args .result)
+
+  accepted : headedChecked true (plainLimit desk) t ≡ Accepted
+  accepted = table-at-desk t (checked .before .before .desk .ensures) (checked .check .ensures) (c .enum-told .given .1)
+
+  some : 1 ≤ length t
+  some = some-word true (plainLimit desk) t accepted
+
+-- and its until-like words were counted
+module _ (c : tie.After-past) where
+  abbrev told : tie.After-enum-told
+  told = c .before .before
+
+  counted : Past (body (t told)) (desk .fixpoints) (c .past .result)
+  counted = past-at-desk (checked told .before .before .desk .ensures) (subst (λ (w : List ℕ). Past w (checked told .before .before .desk .result .fixpoints) (c .past .result)) (whole-body (t told)) (c .past .ensures))
+
+returns : tie.Need-returns
+returns c =
+    let n = told (c .before) in
+    let q = past-refused desk (t n) (result n) (accepted n) (counted (c .before)) (c .if1 .taken) in
+    (q .reply, q .slice)
+
+answer-requires : tie.Need-answer-requires
+answer-requires c κs =
+    let tested = c .before .before in
+    let n = told (tested .before) in
+    rw (whole-body (t n)) (all-passed desk (t n) (result n) (accepted n) (counted (tested .before)) (tested .if1 .left) (record { positioned = omega arith; few = omega arith; drafted = omega arith }))
 
 returns-2 : tie.Need-returns-2
 returns-2 c =
-    let q = too-long desk (c .before .before .before .before .before .before .before .before .before .before .before .before .before .before .before .before .before .before .args .table .now) (c .before .before .before .before .before .before .before .before .before .before .before .before .before .before .before .before .before .before .args .result .now) (table-at-desk _ (c .before .before .before .before .before .before .before .before .before .before .before .before .before .before .before .desk .ensures) (c .before .before .before .before .before .before .before .before .before .before .before .before .before .check .ensures) (c .before .before .before .before .before .before .before .before .before .before .before .enum-told .given .1)) (past-at-desk (c .before .before .before .before .before .before .before .before .before .before .before .before .before .before .before .desk .ensures) (c .before .before .before .before .before .before .before .before .before .before .past .ensures)) (c .before .before .before .before .before .before .before .before .before .if1 .left) (c .before .before .before .before .before .before .before .form .ensures) (c .before .before .before .before .if2 .taken) (c .before .before .before .before .before .before .before .form .kept .1 .0) in
-    (q .reply, c .before .before .words .ensures ∙ q .slice)
+    let asked = c .before .before .before in
+    let args = asked .before .before .before .before .before .args in
+    let q = table-refused desk (now (args .table)) (now (args .result)) _ (table-at-desk _ (asked .before .before .desk .ensures) (asked .check .ensures) (c .before .r .given .1)) in
+    (q .reply, q .slice)
 
 returns-3 : tie.Need-returns-3
 returns-3 c =
-    let q = table-refused desk (c .before .before .before .before .before .before .before .before .args .table .now) (c .before .before .before .before .before .before .before .before .args .result .now) _ (table-at-desk _ (c .before .before .before .before .before .desk .ensures) (c .before .before .before .check .ensures) (c .before .r .given .1)) in
+    let tested = c .before .before .before .before .before in
+    let n = told (tested .before) in
+    let q = given desk (t n) (result n) (accepted n) (counted (tested .before)) (tested .if1 .left) (rw (whole-body (t n)) at (c .before .before .answer .ensures)) in
     (q .reply, q .slice)
-
-returns-4 : tie.Need-returns-4
-returns-4 c =
-    let q = made desk (c .before .before .before .before .before .before .before .before .before .before .before .before .before .before .args .table .now) (c .before .before .before .before .before .before .before .before .before .before .before .before .before .before .args .result .now) (table-at-desk _ (c .before .before .before .before .before .before .before .before .before .before .before .desk .ensures) (c .before .before .before .before .before .before .before .before .before .check .ensures) (c .before .before .before .before .before .before .before .enum-told .given .1)) (past-at-desk (c .before .before .before .before .before .before .before .before .before .before .before .desk .ensures) (c .before .before .before .before .before .before .past .ensures)) (c .before .before .before .before .before .if1 .left) (c .before .before .before .form .ensures) (c .if2 .left) in (q .reply, q .slice)
 
 pub normalise-spec : {M : Type 1} → statement M
 normalise-spec =
@@ -43,12 +86,15 @@ normalise-spec =
     (λ c κs. search needs)
     (λ c. search needs)
     (λ c. search needs)
+    some
+    some
+    (λ c. search needs)
     (λ c κs. search needs)
     returns
-    form-requires
-    (λ c κs. search needs)
+    (λ c. some (told (c .before)))
+    (λ c. some (told (c .before)))
     (λ c. search needs)
+    answer-requires
     returns-2
-    returns-3
     (λ c. search needs)
-    returns-4)
+    returns-3)

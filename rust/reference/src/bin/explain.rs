@@ -1,30 +1,35 @@
-//! Prints a written rule's tables with each word's rule beside it: as written, in plain form and in normal form, with class bytes.
+//! Prints a written rule's tables with each word's rule beside it: as written, in plain form and in normal form, with class bytes. The
+//! header comes first, without a number.
 //!
 //!     explain TEXT        as: explain 'G(p1 -> F p2)'
 use reference::class::Classes;
+use reference::edges::headed;
 use reference::forest::{Forest, Tree};
+use reference::header::words;
 use reference::listing::bits;
-use reference::steps::{normal_form, plain_form};
+use reference::steps::{normal_words, plain_words};
 use reference::text::{read, show};
 
 fn main() {
     let text = std::env::args().nth(1).expect("usage: explain TEXT");
     let mut forest = Forest::new();
     let tree = read(&mut forest, &text);
-    let written = bits(&forest, tree);
+    let written = headed(&bits(&forest, tree));
     print("written", &written, false);
-    let plain: Vec<u32> = plain_form(&written).expect("it passes the checks").iter().map(|w| w.bits()).collect();
+    let plain: Vec<u32> = plain_words(&written).expect("it passes the checks").iter().map(|w| w.bits()).collect();
+    let plain = headed(&plain);
     print("plain form", &plain, true);
-    let form: Vec<u32> = normal_form(&plain).expect("it passes the checks").iter().map(|w| w.bits()).collect();
-    print("normal form", &form, true);
+    let form: Vec<u32> = normal_words(&plain).expect("it passes the checks").iter().map(|w| w.bits()).collect();
+    print("normal form", &headed(&form), true);
 }
 
 fn print(title: &str, table: &[u32], with_class: bool) {
-    println!("{title}: {} words", table.len());
+    println!("{title}: {} words", words(table).len());
+    println!("      {:08X}", table[0]);
     let mut forest = Forest::new();
-    let trees: Vec<Tree> = forest.of_table(table);
+    let trees: Vec<Tree> = forest.of_words(words(table));
     let classes = Classes::of(&forest, &trees);
-    for ((n, word), &tree) in (1..).zip(table).zip(&trees) {
+    for ((n, word), &tree) in (1..).zip(words(table)).zip(&trees) {
         let class = if with_class { format!("  {:02X}", classes.byte(tree)) } else { String::new() };
         println!("{n:4}  {word:08X}{class}  {}", show(&forest, tree));
     }

@@ -2,7 +2,7 @@
 //! what it must print, and NAME.err what it must say on standard error where that is something.
 //!
 //!     runs FOLDER
-use reference::edges::{chain_of, chain_of_ands, chain_of_next, long_forms, nested};
+use reference::edges::{chain_of, chain_of_ands, chain_of_next, headed, long_forms, nested};
 use reference::program::{Printed, Run};
 use reference::rules::rules;
 use reference::texts::texts;
@@ -53,13 +53,13 @@ fn runs() -> Vec<(String, Run)> {
     for (name, text) in typed() {
         add(format!("text {name}"), true, false, text);
     }
-    for (n, (_, table)) in (1..).zip(nested(2)) {
-        add(format!("nested {n}, as text"), false, true, bytes(&table));
+    for (n, (_, words)) in (1..).zip(nested(2)) {
+        add(format!("nested {n}, as text"), false, true, bytes(&headed(&words)));
     }
     // forms whose text is as long as any that is printed or counted, a byte shorter and a byte longer
     for limit in [3, 512, 4_096, 1_048_576, 1_000_000_000_000] {
         for length in limit - 1..=limit + 1 {
-            add(format!("text of {length} bytes, as text"), false, true, bytes(&with_text_of(length)));
+            add(format!("text of {length} bytes, as text"), false, true, bytes(&headed(&with_text_of(length))));
         }
     }
     for text in
@@ -76,11 +76,12 @@ fn bytes(table: &[u32]) -> Vec<u8> {
 
 /// Tables, and bytes that are none.
 fn inputs() -> Vec<(String, Vec<u8>)> {
-    let mut inputs: Vec<(String, Vec<u8>)> = tables().into_iter().map(|(name, table)| (name, bytes(&table))).collect();
-    // bytes that are no whole words
+    let tables = tables().into_iter().map(|(name, words)| (name, headed(&words))).chain(headers());
+    let mut inputs: Vec<(String, Vec<u8>)> = tables.map(|(name, table)| (name, bytes(&table))).collect();
+    // bytes that are no whole words, after no header and after one
     for over in 1..4 {
         for words in [0, 1, 2, 64, 65, 66, 2000] {
-            let mut input = bytes(&chain_of_next(words));
+            let mut input = if words == 0 { vec![] } else { bytes(&headed(&chain_of_next(words))) };
             input.extend([0x30, 0, 0].iter().take(over));
             inputs.push((format!("{words} words and {over} bytes"), input));
         }
@@ -119,11 +120,41 @@ fn with_text_of(bytes: u64) -> Vec<u32> {
     table
 }
 
+/// Tables with a header that is missing, damaged, or not that of the words after it.
+fn headers() -> Vec<(String, Vec<u32>)> {
+    let mut tables: Vec<(String, Vec<u32>)> = Vec::new();
+    let mut add = |name: String, table: Vec<u32>| tables.push((name, table));
+    add("empty".into(), vec![]);
+    let always = [0x0000_0002, 0x3000_0001, 0xE000_0001];
+    add("no header".into(), always[1..].to_vec());
+    for words in [1, 2] {
+        add(format!("cut to {words}"), always[..words].to_vec());
+    }
+    for header in [0, 1, 3, 0x40, 0x41, 0x3FFF, 0x4002, 0x001F_C002, 0x0FFF_C002, 0x1000_0002, 0xF000_0002, 0xFFFF_FFFF] {
+        add(format!("header {header:08X} of always"), [&[header], &always[1..]].concat());
+    }
+    let finally = [0x2000_0000, 0x3000_0001, 0x8000_4002];
+    for header in [0x001E_8003, 0x0000_0003, 0x001E_C003, 0x003E_8003, 0x101E_8003, 0x001E_8002, 0x001E_8004] {
+        add(format!("header {header:08X} of finally"), [&[header], &finally[..]].concat());
+    }
+    // 10 is before 24, and 24 before 11
+    add("unused word under a wrong class".into(), vec![0x0000_4002, 0x3000_0001, 0x3000_0002]);
+    add("9 words of kind 8 under a wrong class".into(), [vec![0x0000_400B], chain_of(8, 9)].concat());
+    // counts beside lengths, around as many words as the program reads
+    for count in [0, 1, 63, 64, 65, 66, 16_383] {
+        for words in [0, 1, 63, 64, 65, 66, 67, 5000] {
+            add(format!("count {count} and {words} words"), [vec![0x001F_8000 + count], chain_of_next(words)].concat());
+        }
+    }
+    tables
+}
+
+/// Words, which get their header.
 fn tables() -> Vec<(String, Vec<u32>)> {
     let mut tables: Vec<(String, Vec<u32>)> = Vec::new();
-    let mut add = |name: &str, table: &[u32]| tables.push((name.to_string(), table.to_vec()));
+    let mut add = |name: &str, words: &[u32]| tables.push((name.to_string(), words.to_vec()));
     // a refusal from each place that the program can meet
-    add("empty", &[]);
+    add("no word", &[]);
     add("kind 0", &[0x2000_0000, 0x0000_0001]);
     add("field not 0", &[0x3000_4001]);
     add("left operand 0", &[0x2000_0000, 0x5000_0001]);
@@ -148,11 +179,11 @@ fn tables() -> Vec<(String, Vec<u32>)> {
             add(&format!("{k} words of kind {kind}"), &chain_of(kind, k));
         }
     }
-    for (form_words, table) in long_forms().into_iter().filter(|(_, table)| table.len() <= 64) {
-        add(&format!("form of {form_words}"), &table);
+    for (form_words, words) in long_forms().into_iter().filter(|(_, words)| words.len() <= 64) {
+        add(&format!("form of {form_words}"), &words);
     }
-    for (name, table) in rules() {
-        add(&format!("rule {name}"), &table);
+    for (name, words) in rules() {
+        add(&format!("rule {name}"), &words);
     }
     tables
 }

@@ -1,6 +1,6 @@
 //! A case of the case runner: how it is written for the runner, and what the runner must print.
 use reference::checks::Refusal;
-use reference::edges::chain_of_next;
+use reference::edges::{chain_of_next, headed};
 use reference::recording::Recording;
 use reference::steps::{self, Judgement, Tally};
 
@@ -21,10 +21,12 @@ pub enum Step {
 pub struct Case {
     pub label: String,
     pub step: Step,
-    /// The table: words of a chain (letter 1, then X of the word before), then listed ones, then one of all replaced.
+    /// The words of the table: those of a chain (letter 1, then X of the word before), then listed ones, then one of all replaced. Of a
+    /// text its bytes are listed.
     pub chain: usize,
     pub listed: Vec<u32>,
     pub replaced: Option<(usize, u32)>,
+    pub header: Header,
     /// Rooms of the lent slices.
     pub room: usize,
     pub second: usize,
@@ -36,6 +38,16 @@ pub struct Case {
     pub tally: Tally,
 }
 
+/// What stands before the words.
+#[derive(Clone)]
+pub enum Header {
+    /// Their header.
+    Theirs,
+    Other(u32),
+    /// Nothing: they are a text, or no table.
+    None,
+}
+
 #[derive(Clone)]
 pub enum Samples {
     Listed(Vec<u32>),
@@ -44,13 +56,15 @@ pub enum Samples {
 }
 
 impl Case {
-    pub fn new(label: &str, step: Step, table: &[u32], room: usize) -> Case {
+    /// Of a table with these words, under their header.
+    pub fn new(label: &str, step: Step, words: &[u32], room: usize) -> Case {
         Case {
             label: label.into(),
             step,
             chain: 0,
-            listed: table.to_vec(),
+            listed: words.to_vec(),
             replaced: None,
+            header: Header::Theirs,
             room,
             second: 0,
             plain: false,
@@ -65,31 +79,47 @@ impl Case {
     /// Of a text, which is listed in place of a table: a word for each byte.
     pub fn of_text(label: &str, text: &[u8], room: usize) -> Case {
         let bytes: Vec<u32> = text.iter().map(|&byte| byte.into()).collect();
-        Case::new(label, Step::Text, &bytes, room)
+        Case { header: Header::None, ..Case::new(label, Step::Text, &bytes, room) }
     }
 
     /// The case as the runner reads it (crates/case_input/src/input.rt).
     pub fn words(&self) -> Vec<u32> {
-        let (place, word) = self.replaced.unwrap_or((0, 0));
-        let (listed, count, seed) = match &self.samples {
+        // the header is the first of the listed words, and stands before the chain; the word that is replaced is counted with it
+        let header = self.header();
+        let listed = [&header[..], &self.listed].concat();
+        let (place, word) = self.replaced.map_or((0, 0), |(place, word)| (header.len() + place, word));
+        let (samples, count, seed) = match &self.samples {
             Samples::Listed(samples) => (samples.clone(), samples.len(), 0),
             Samples::Made(count, seed) => (vec![], *count, *seed),
         };
         let number = |n: usize| u32::try_from(n).expect("a word");
-        let mut words = vec![self.step as u32, number(self.chain), number(self.listed.len()), number(place), word];
+        let mut words = vec![self.step as u32, number(self.chain), number(listed.len()), number(place), word];
         words.extend([number(self.room), number(self.second), self.plain as u32, number(self.limit)]);
         words.extend([number(count), number(self.start), number(self.driven), self.tally.judged, self.tally.held, seed]);
-        words.extend(&self.listed);
         words.extend(listed);
+        words.extend(samples);
         words
     }
 
-    fn table(&self) -> Vec<u32> {
-        let mut table = [chain_of_next(self.chain), self.listed.clone()].concat();
+    fn after_header(&self) -> Vec<u32> {
+        let mut words = [chain_of_next(self.chain), self.listed.clone()].concat();
         if let Some((place, word)) = self.replaced {
-            table[place - 1] = word;
+            words[place - 1] = word;
         }
-        table
+        words
+    }
+
+    /// The header, where there is one.
+    fn header(&self) -> Vec<u32> {
+        match self.header {
+            Header::Theirs => headed(&self.after_header())[..1].to_vec(),
+            Header::Other(header) => vec![header],
+            Header::None => vec![],
+        }
+    }
+
+    fn table(&self) -> Vec<u32> {
+        [self.header(), self.after_header()].concat()
     }
 
     fn samples(&self) -> Vec<u32> {

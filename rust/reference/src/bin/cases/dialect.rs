@@ -2,20 +2,20 @@
 //! only; the longest tables and the longest conversions; result slices that are long enough, of exactly the length, one less, and none.
 use crate::case::{Case, Step};
 use crate::forms::{denied, rooms};
-use reference::edges::{chain_of, chain_of_next, nested};
-use reference::steps::{dialect_table, plain_form};
+use reference::edges::{chain_of, chain_of_next, headed, nested};
+use reference::steps::{dialect_words, plain_words};
 use reference::word::Word;
 
 pub fn cases() -> Vec<Case> {
     let mut cases = Vec::new();
-    for (label, table) in tables() {
-        let length = dialect_table(&table).map_or(0, |words| words.len());
-        let case = |room| Case::new(&format!("{label}, dialect, room {room}"), Step::Dialect, &table, room);
+    for (label, words) in tables() {
+        let length = dialect_words(&headed(&words)).map_or(0, |made| 1 + made.len());
+        let case = |room| Case::new(&format!("{label}, dialect, room {room}"), Step::Dialect, &words, room);
         cases.extend(rooms(length, 16_400).into_iter().map(case));
     }
-    for (label, table) in nested(2) {
-        let plain: Vec<u32> = plain_form(&table).expect("a plain form").iter().map(|w| w.bits()).collect();
-        cases.push(Case::new(&format!("{label}, dialect of its plain form"), Step::Dialect, &plain, 16_383));
+    for (label, words) in nested(2) {
+        let plain: Vec<u32> = plain_words(&headed(&words)).expect("a plain form").iter().map(|w| w.bits()).collect();
+        cases.push(Case::new(&format!("{label}, dialect of its plain form"), Step::Dialect, &plain, 16_384));
     }
     cases.extend(long());
     cases
@@ -63,11 +63,11 @@ fn long() -> Vec<Case> {
         Case { chain, replaced, ..Case::new(&label, Step::Dialect, &listed, room) }
     };
     let mut cases = vec![case(16_384, &[], None, 16_400)];
-    cases.extend([16_400, 16_383, 16_382, 0].map(|room| case(16_383, &[], None, room)));
+    cases.extend([16_400, 16_384, 16_383, 0].map(|room| case(16_383, &[], None, room)));
     for kind in [9, 11] {
         // conversions of 16,383 words, and of one more
-        cases.extend([16_400, 16_383, 16_382].map(|room| case(16_381, &[Word::new(kind, 16_381, 16_380)], None, room)));
-        cases.extend([16_400, 16_383].map(|room| case(16_382, &[Word::new(kind, 16_382, 16_381)], None, room)));
+        cases.extend([16_400, 16_384, 16_383].map(|room| case(16_381, &[Word::new(kind, 16_381, 16_380)], None, room)));
+        cases.extend([16_400, 16_384].map(|room| case(16_382, &[Word::new(kind, 16_382, 16_381)], None, room)));
     }
     for kind in 12..16 {
         let word = if kind == 15 { Word::new(15, 16_382, 16_382) } else { Word::new(kind, 0, 16_382) };

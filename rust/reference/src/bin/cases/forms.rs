@@ -1,53 +1,53 @@
 //! Plain and normal forms: every operator alone, denied and nested in every other; shared words; the limits on words and until-like
 //! words; result slices of exactly the length, one less, none, and longer than any counts for; forms as long as slices count for.
 use crate::case::{Case, Step};
-use reference::edges::{chain_of, chain_of_ands, chain_of_next, long_forms, nested};
-use reference::steps::{normal_form, plain_form};
+use reference::edges::{chain_of, chain_of_ands, chain_of_next, headed, long_forms, nested};
+use reference::steps::{normal_words, plain_words};
 use reference::word::Word;
 
 pub fn cases() -> Vec<Case> {
     let mut cases = Vec::new();
-    for (label, table) in tables() {
-        cases.extend(plain(&label, &table));
-        cases.extend(normal(&label, &table));
-        cases.extend(whole(&label, &table));
+    for (label, words) in tables() {
+        cases.extend(plain(&label, &words));
+        cases.extend(normal(&label, &words));
+        cases.extend(whole(&label, &words));
     }
-    for (label, table) in nested(2) {
-        let form = Case { second: 16_383, ..Case::new(&format!("{label}, whole way"), Step::Form, &table, 130) };
+    for (label, words) in nested(2) {
+        let form = Case { second: 16_384, ..Case::new(&format!("{label}, whole way"), Step::Form, &words, 131) };
         cases.push(form);
     }
     cases
 }
 
-/// A room that is enough, the exact one, one less, and none.
+/// A room that is enough, the exact one, one less, and none. The length counts the header, and is 0 where nothing is made.
 pub fn rooms(length: usize, enough: usize) -> Vec<usize> {
     let mut rooms = vec![enough, length, length.saturating_sub(1), 0];
     rooms.dedup();
     rooms
 }
 
-fn plain(label: &str, table: &[u32]) -> Vec<Case> {
-    let length = plain_form(table).map_or(0, |form| form.len());
-    let case = |room| Case::new(&format!("{label}, plain form, room {room}"), Step::Plain, table, room);
+fn plain(label: &str, words: &[u32]) -> Vec<Case> {
+    let length = plain_words(&headed(words)).map_or(0, |form| 1 + form.len());
+    let case = |room| Case::new(&format!("{label}, plain form, room {room}"), Step::Plain, words, room);
     rooms(length, 140).into_iter().map(case).collect()
 }
 
-fn normal(label: &str, table: &[u32]) -> Vec<Case> {
-    let length = normal_form(table).map_or(0, |form| form.len().min(16_400));
-    let case = |room| Case::new(&format!("{label}, normal form, room {room}"), Step::Normal, table, room);
+fn normal(label: &str, words: &[u32]) -> Vec<Case> {
+    let length = normal_words(&headed(words)).map_or(0, |form| (1 + form.len()).min(16_400));
+    let case = |room| Case::new(&format!("{label}, normal form, room {room}"), Step::Normal, words, room);
     rooms(length, 16_400).into_iter().map(case).collect()
 }
 
 /// The whole way, with either slice too short by one, both right, and none.
-fn whole(label: &str, table: &[u32]) -> Vec<Case> {
-    let plain: Vec<u32> = plain_form(table).unwrap_or_default().iter().map(|w| w.bits()).collect();
-    let form = normal_form(&plain).map_or(0, |form| form.len().min(16_400));
-    let (n, m) = (plain.len(), form);
+fn whole(label: &str, words: &[u32]) -> Vec<Case> {
+    let plain: Vec<u32> = plain_words(&headed(words)).unwrap_or_default().iter().map(|w| w.bits()).collect();
+    let m = normal_words(&headed(&plain)).map_or(0, |form| (1 + form.len()).min(16_400));
+    let n = if plain.is_empty() { 0 } else { 1 + plain.len() };
     let case = |(room, second): (usize, usize)| Case {
         second,
-        ..Case::new(&format!("{label}, whole way, rooms {room} and {second}"), Step::Form, table, room)
+        ..Case::new(&format!("{label}, whole way, rooms {room} and {second}"), Step::Form, words, room)
     };
-    [(130, 4_096), (n, m), (n.saturating_sub(1), m), (n, m.saturating_sub(1)), (0, 0)].into_iter().map(case).collect()
+    [(131, 4_097), (n, m), (n.saturating_sub(1), m), (n, m.saturating_sub(1)), (0, 0)].into_iter().map(case).collect()
 }
 
 fn tables() -> Vec<(String, Vec<u32>)> {
@@ -68,7 +68,7 @@ fn tables() -> Vec<(String, Vec<u32>)> {
     for kind in 8..12 {
         tables.extend([3, 8, 9].map(|k| (format!("{k} words of kind {kind}"), chain_of(kind, k))));
     }
-    tables.extend(long_forms().into_iter().map(|(n, table)| (format!("form of {n} words"), table)));
+    tables.extend(long_forms().into_iter().map(|(n, words)| (format!("form of {n} words"), words)));
     tables
 }
 

@@ -39,7 +39,7 @@ pub fn cases() -> Vec<Case> {
 
 const ALWAYS: [u32; 2] = [0x30000001, 0xE0000001];
 
-/// A name, the table, how many samples, the loop start, the driven count, the room and the tally.
+/// A name, the table's words, how many samples, the loop start, the driven count, the room and the tally.
 type Row<'a> = (&'a str, &'a [u32], usize, usize, usize, usize, Tally);
 
 fn tally(judged: u32, held: u32) -> Tally {

@@ -5,6 +5,7 @@
 mod case;
 mod dialect;
 mod forms;
+mod headers;
 mod judging;
 mod tables;
 mod texts;
@@ -15,7 +16,8 @@ use std::{env, fs, path::Path};
 fn main() {
     let folder = env::args().nth(1).expect("usage: cases FOLDER");
     let folder = Path::new(&folder);
-    let cases: Vec<Case> = [tables::cases(), forms::cases(), judging::cases(), texts::cases(), dialect::cases()].concat();
+    let cases: Vec<Case> =
+        [tables::cases(), headers::cases(), forms::cases(), judging::cases(), texts::cases(), dialect::cases()].concat();
     if env::args().nth(2).is_some() {
         cases.iter().for_each(|case| println!("{}", case.label));
         return;

@@ -1,4 +1,4 @@
-//! Reading a table, every refusal 1 to 10 at the first and at the last word that it can have; the class step.
+//! Reading a table, every refusal 1 to 10 at the first and at the last word that it can have, under the words' header; the class step.
 use crate::case::{Case, Step};
 
 /// Words of the chain, the number and the word that is replaced, whether plain only, the limit.
@@ -66,7 +66,7 @@ pub fn cases() -> Vec<Case> {
         ("class of G a or (b U c) (002, Example 7)", &either, 11),
         ("class of F (a and G (b or F c)) (002, Example 9)", &nested, 11),
     ];
-    cases.extend(classes.map(|(label, table, room)| Case::new(label, Step::Class, table, room)));
+    cases.extend(classes.map(|(label, words, room)| Case::new(label, Step::Class, words, room)));
     for room in [16_382, 16_383, 16_400] {
         cases.push(Case { chain: 16_383, ..Case::new(&format!("class of 16383 words, {room} bytes"), Step::Class, &[], room) });
     }

@@ -1,14 +1,14 @@
 //! Rules typed as text: every symbol, every place at which a text can break, the limits on bytes and words, and their order; result
 //! slices that are long enough, of exactly the length, one less, of 10 words, and of none.
 use crate::case::Case;
-use reference::steps::text_table;
+use reference::steps::text_words;
 use reference::texts::texts;
 
 pub fn cases() -> Vec<Case> {
     let mut cases = Vec::new();
     for (label, text) in texts() {
-        let rooms = match text_table(&text) {
-            Ok(words) => vec![140, words.len(), words.len() - 1, 10],
+        let rooms = match text_words(&text) {
+            Ok(words) => vec![140, 1 + words.len(), words.len(), 10],
             Err(_) if text.len() > 300 => vec![10],
             Err(_) => vec![140, 10],
         };
@@ -16,5 +16,6 @@ pub fn cases() -> Vec<Case> {
     }
     cases.push(Case::of_text("empty text, room 0", b"", 0));
     cases.push(Case::of_text("1 word, room 0", b"p1", 0));
+    cases.push(Case::of_text("64 words, room 65", format!("{}p1", "X".repeat(63)).as_bytes(), 65));
     cases
 }

@@ -1,0 +1,2 @@
+-- Laws of the header of words.
+pub mod Headable

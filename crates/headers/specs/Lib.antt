@@ -1,0 +1,2 @@
+-- What the header of words is asked with.
+pub mod Headable

@@ -1,0 +1,2 @@
+-- How a step that made a table ends.
+pub mod Finished
