@@ -14,9 +14,9 @@ use Rattle.table.specs.Header.{body}
 use Rattle.table.proofs.Header.{accepted-headed}
 use Rattle.row_words.specs.Row.{row, rowWords}
 use Rattle.claims.specs.Claim.{Kept}
-use Rattle.evaluation.specs.Judging.{lassoOf, rowOf, judgement, rowOutcome, lastRow}
-use Rattle.judge_checks.proofs.Outcomes.{judgeable-accepted}
-use Rattle.evaluation.proofs.Accepted.{accepted-facts}
+use Rattle.judging.specs.Judging.{lassoOf, rowOf, judgement, rowOutcome, lastRow}
+use Rattle.judge_conditions.proofs.Outcomes.{judgeable-accepted}
+use Rattle.judging.proofs.Accepted.{accepted-facts}
 use Rattle.judge_laws.proofs.Promise.{rule-drives}
 
 module _ (t form : List ℕ) (n : ℕ) (kept : Kept t form n) (samples : List ℕ) (start driven : ℕ) (scratch : List ℕ)

@@ -8,8 +8,8 @@ ghost use Rattle.table.specs.Header.{body, headedChecked};
 ghost use Rattle.table.specs.Frame.{classStep, plainStep, normalStep, dialectStep, outcomeOf, answerOf, resultOf};
 ghost use Rattle.text.specs.Text.{textStep};
 ghost use Rattle.claims.specs.Whole.{wholeAnswer, wholeResult};
-ghost use Rattle.evaluation.specs.Judging.{judgeOutcome, rowOutcome, scratchAfter};
-ghost use Rattle.evaluation.specs.Judging.{reply as judgeReply};
+ghost use Rattle.judging.specs.Judging.{judgeOutcome, rowOutcome, scratchAfter};
+ghost use Rattle.judging.specs.Judging.{reply as judgeReply};
 ghost use Rattle.replies.specs.Replies.{FormReply, JudgeReply, RowReply};
 use replies::form_reply;
 use replies::reply;
@@ -171,5 +171,5 @@ pub extern "C" fn showrule_row(
         (rowOutcome (now (table .entry)) (now (samples .entry)) start driven (now (scratch .entry)))
         (now (table .entry)) (now (samples .entry)) start driven (now (scratch .entry)) ⌝ }
 {
-    judge_calls::row(table, samples, start, driven, scratch, from, words, place)
+    row_call::row(table, samples, start, driven, scratch, from, words, place)
 }

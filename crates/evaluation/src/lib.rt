@@ -1,6 +1,4 @@
 // Judging a rule over a looped recording: the rows of all its words, the answer read off the last one, and the tally.
-pub mod answer;
-
 ghost use mathlib.Core.Path.{_≡_};
 ghost use Prim.Native.Nat.{ℕ, _≤_};
 ghost use Rattle.row_words.specs.Writing.{RowFor};
@@ -9,15 +7,15 @@ ghost use Rattle.logic.specs.Truth.{Sequence};
 ghost use Rattle.refusals.specs.declared.Outcome.the-variants.{Accepted};
 ghost use Rattle.table.specs.Table.{formulas, rule};
 ghost use Rattle.row_filling.specs.Filling.{Fillable, lassoOf, rowsThen};
-ghost use Rattle.evaluation.specs.Judging.{rowOutcome, judgeOutcome, judgement, replyBy, reply, scratchAfter, lastRow, partAt};
-ghost use Rattle.judge_checks.specs.Checks.{tallyChecks};
+ghost use Rattle.judging.specs.Judging.{rowOutcome, judgeOutcome, judgement, replyBy, reply, scratchAfter, lastRow, partAt};
+ghost use Rattle.judge_conditions.specs.Checks.{tallyChecks};
 ghost use Rattle.refusals.specs.Refusals.{first, outcomeNumber, outcomePlace};
 ghost use Rattle.tally.specs.Tallies.{tallyAfter};
-use crate::answer::Judged;
-use crate::answer::Judgement;
 use judge_checks::checks::check_judge;
 use judge_checks::checks::check_row;
 use judge_checks::checks::row_words;
+use judging::answer::Judged;
+use judging::answer::Judgement;
 use refusals::Outcome;
 use row_filling::fill_rows;
 use row_reading::count_held;

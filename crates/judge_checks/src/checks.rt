@@ -6,7 +6,7 @@ ghost use Rattle.refusals.specs.Refusals.{first};
 ghost use Rattle.row_words.specs.Row.{rowWords};
 ghost use lib.ListN.{length};
 ghost use Rattle.table.specs.StepChecks.{letterChecks};
-ghost use Rattle.judge_checks.specs.Checks.{recordingChecks, scratchChecks, tallyChecks, rowChecks, judgeChecks};
+ghost use Rattle.judge_conditions.specs.Checks.{recordingChecks, scratchChecks, tallyChecks, rowChecks, judgeChecks};
 use letter_checks::check_letters;
 use refusals::Outcome;
 use refusals::Refusal;

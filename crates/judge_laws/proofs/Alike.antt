@@ -19,14 +19,14 @@ use Rattle.table.specs.Table.{formulas, rule}
 use Rattle.table.specs.Header.{body}
 use Rattle.table.proofs.Formulas.{length-formulas}
 use Rattle.tally.specs.declared.Tally.{Tally}
-use Rattle.evaluation.specs.declared.answer.Judged.{Judged}
+use Rattle.judging.specs.declared.answer.Judged.{Judged}
 use Rattle.tally.specs.Tallies.{counted}
 use Rattle.judge_laws.specs.Alike.{Alike}
 use Rattle.row_filling.specs.Filling.{lassoOf, rowOf, rowsOf, rowsThen}
-use Rattle.evaluation.specs.Judging.{judgement, rowOutcome, judgeOutcome, replyBy, reply, scratchAfter, lastRow, partAt}
+use Rattle.judging.specs.Judging.{judgement, rowOutcome, judgeOutcome, replyBy, reply, scratchAfter, lastRow, partAt}
 use Rattle.row_filling.proofs.WordRow.{Inside, lasso-inside}
-use Rattle.evaluation.proofs.Accepted.{accepted-facts}
-use Rattle.evaluation.proofs.LastRow.{judge-rows}
+use Rattle.judging.proofs.Accepted.{accepted-facts}
+use Rattle.judging.proofs.LastRow.{judge-rows}
 use Rattle.judge_laws.proofs.Promise.{accepted-word, accepted-drives, rule-drives}
 
 -- ---- lassos of equal size that agree

@@ -34,13 +34,13 @@ use Rattle.table.proofs.Letters.{formulas-driven}
 use Rattle.tally.specs.declared.Tally.{Tally}
 use Rattle.operand_rows.specs.Operands.{rowNumber}
 use Rattle.row_filling.specs.Filling.{lassoOf, rowOf, rowsThen}
-use Rattle.evaluation.specs.Judging.{rowOutcome, judgeOutcome, replyBy, reply, scratchAfter, lastRow}
+use Rattle.judging.specs.Judging.{rowOutcome, judgeOutcome, replyBy, reply, scratchAfter, lastRow}
 use Rattle.judge_laws.specs.Answers.{said, holdsIn, Count, none, one-more, no-more, FirstFailing, Judges}
-use Rattle.judge_checks.proofs.Outcomes.{Judgeable}
+use Rattle.judge_conditions.proofs.Outcomes.{Judgeable}
 use Rattle.row_filling.proofs.Scratch.{width, row-part}
 use Rattle.row_filling.proofs.WordRow.{Inside, lasso-inside}
-use Rattle.evaluation.proofs.Accepted.{accepted-facts}
-use Rattle.evaluation.proofs.LastRow.{judge-rows, accepted-scratch}
+use Rattle.judging.proofs.Accepted.{accepted-facts}
+use Rattle.judging.proofs.LastRow.{judge-rows, accepted-scratch}
 
 -- a row's bit at a position below its number of positions
 row-bit : (L : ℕ) (f : Sequence) (i : ℕ) → i < L → holdsIn (row L f) i ≡ f i

@@ -9,8 +9,8 @@ use lib.Dec.{T}
 use Rattle.logic.specs.Bit.{bit}
 use Rattle.logic.specs.Semantics.{Predicate}
 use Rattle.refusals.specs.Refusals.{numberOf, placeOf}
-use Rattle.evaluation.specs.declared.answer.Judgement.{Judgement}
-use Rattle.evaluation.specs.declared.answer.Judgement.the-variants.{Judged, Refused}
+use Rattle.judging.specs.declared.answer.Judgement.{Judgement}
+use Rattle.judging.specs.declared.answer.Judgement.the-variants.{Judged, Refused}
 
 pub record Said : Type 0 where
   pub number : ℕ

@@ -1,6 +1,4 @@
 // The checks of a table of words, numbers 1 to 10, in document 01's order.
-mod rooms;
-
 use refusals::Outcome;
 use refusals::Refusal;
 ghost use mathlib.Core.Path.{_≡_};
@@ -22,13 +20,13 @@ pub fn check(table: &[u32], plain: bool, limit: usize) -> Outcome
         return Outcome::Refused(Refusal::TooManyWords);
     }
     if table.len() <= 64 {
-        return rooms::of_64(table, plain);
+        return check_rooms::of_64(table, plain);
     }
     if table.len() <= 512 {
-        return rooms::of_512(table, plain);
+        return check_rooms::of_512(table, plain);
     }
     if table.len() <= 16383 {
-        return rooms::of_16383(table, plain);
+        return check_rooms::of_16383(table, plain);
     }
     Outcome::Refused(Refusal::TooManyWords)
 }

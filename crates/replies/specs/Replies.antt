@@ -6,7 +6,7 @@ use Rattle.refusals.specs.declared.Outcome.{Outcome}
 use Rattle.refusals.specs.declared.Outcome.the-variants as outcome
 use Rattle.refusals.specs.Refusals.{outcomeNumber, outcomePlace}
 use Rattle.row_words.specs.Row.{rowWords}
-use Rattle.evaluation.specs.declared.answer.Judged.{Judged}
+use Rattle.judging.specs.declared.answer.Judged.{Judged}
 use Rattle.judge_laws.specs.Answers.{said}
 use Rattle.table.specs.declared.answer.Answer.{Answer}
 use Rattle.table.specs.Frame.{answerReport, answerWords}

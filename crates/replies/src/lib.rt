@@ -4,7 +4,7 @@ ghost use Rattle.refusals.specs.Refusals.{outcomeNumber, outcomePlace};
 ghost use Rattle.row_words.specs.Row.{rowWords};
 ghost use Rattle.judge_laws.specs.Answers.{said};
 ghost use Rattle.replies.specs.Replies.{FormReply};
-use evaluation::answer::Judgement;
+use judging::answer::Judgement;
 use refusals::Outcome;
 use table::answer;
 use table::answer::Answer;

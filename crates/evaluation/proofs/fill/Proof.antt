@@ -8,8 +8,8 @@ use lib.ListN.{length}
 use denote.Ref.{now}
 use Rattle.refusals.specs.declared.Outcome.the-variants.{Accepted}
 use Rattle.heading.proofs.Order.{whole-body}
-use Rattle.evaluation.specs.Judging.{rowOutcome, scratchAfter}
-use Rattle.evaluation.proofs.Accepted.{accepted-facts, accepted-fillable, accepted-words}
+use Rattle.judging.specs.Judging.{rowOutcome, scratchAfter}
+use Rattle.judging.proofs.Accepted.{accepted-facts, accepted-fillable, accepted-words}
 use Rattle.evaluation.proofs.fill.Statement.{statement}
 use Rattle.evaluation.proofs.fill.Tie as tie
 

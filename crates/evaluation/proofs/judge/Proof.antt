@@ -8,9 +8,9 @@ use lib.ListN.{length}
 use denote.Ref.{now}
 use Rattle.refusals.specs.declared.Outcome.the-variants.{Accepted}
 use Rattle.heading.proofs.Order.{whole-body}
-use Rattle.evaluation.proofs.LastRow.{judge-rows, judge-tally, refused-reply, accepted-reply, refused-scratch, accepted-scratch}
-use Rattle.evaluation.proofs.Accepted.{accepted-facts, accepted-fillable, accepted-words}
-use Rattle.evaluation.specs.Judging.{rowOutcome, judgeOutcome}
+use Rattle.judging.proofs.LastRow.{judge-rows, judge-tally, refused-reply, accepted-reply, refused-scratch, accepted-scratch}
+use Rattle.judging.proofs.Accepted.{accepted-facts, accepted-fillable, accepted-words}
+use Rattle.judging.specs.Judging.{rowOutcome, judgeOutcome}
 use Rattle.evaluation.proofs.judge.Statement.{statement}
 use Rattle.evaluation.proofs.judge.Tie as tie
 

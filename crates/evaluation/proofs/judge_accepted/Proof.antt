@@ -4,7 +4,7 @@ use borrow.Author.Needs.{needs}
 use lib.ListN.{length}
 use native.Mathlib.Omega.{arith}
 use mathlib.Core.Path.{refl}
-use Rattle.evaluation.proofs.LastRow.{some-word, last-small, last-end, last-for, last-row, accepted-answer}
+use Rattle.judging.proofs.LastRow.{some-word, last-small, last-end, last-for, last-row, accepted-answer}
 use Rattle.row_filling.proofs.WordRow.{fillable-length}
 use Rattle.row_filling.specs.Filling.{Fillable}
 use Rattle.evaluation.proofs.judge_accepted.Statement.{statement}

@@ -1,7 +1,7 @@
 -- Each answer is read off the row, and the tally after it by the first of them.
 use borrow.Author.Needs.{needs}
 use mathlib.Core.Path.{ap, _∙_}
-use Rattle.evaluation.proofs.LastRow.{judged-is}
+use Rattle.judging.proofs.LastRow.{judged-is}
 use Rattle.tally.specs.Tallies.{tallyAfter}
 use Rattle.evaluation.proofs.read_answer.Statement.{statement}
 use Rattle.evaluation.proofs.read_answer.Tie as tie

@@ -6,12 +6,12 @@ use mathlib.Core.Path.{_≡_, sym, ap, _∙_}
 use native.Mathlib.Omega.{arith}
 use mathlib.Core.List.{List}
 use denote.Ref.{now}
-use Rattle.evaluation.proofs.LastRow.{words-before, last-small, last-end, last-row, accepted-scratch, accepted-part, refused-part, accepted-at, refused-at}
+use Rattle.judging.proofs.LastRow.{words-before, last-small, last-end, last-row, accepted-scratch, accepted-part, refused-part, accepted-at, refused-at}
 use Rattle.row_filling.proofs.WordRow.{fillable-length}
-use Rattle.evaluation.proofs.Accepted.{accepted-facts, accepted-fillable, accepted-words}
+use Rattle.judging.proofs.Accepted.{accepted-facts, accepted-fillable, accepted-words}
 use Rattle.table.specs.Header.{body}
 use Rattle.row_filling.specs.Filling.{Fillable}
-use Rattle.evaluation.specs.Judging.{rowOutcome}
+use Rattle.judging.specs.Judging.{rowOutcome}
 use Rattle.refusals.specs.declared.Report.{Report}
 use Rattle.refusals.specs.Refusals.{outcomeReport, outcomeNumber, outcomePlace}
 use Rattle.refusals.specs.declared.Outcome.the-variants.{Accepted}

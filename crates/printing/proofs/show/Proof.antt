@@ -1,42 +1,21 @@
 use Prim.Native.Nat.{_-_}
-use native.Mathlib.Omega.{arith}
-use mathlib.Core.Path.{_≡_, refl, _∙_}
+use mathlib.Core.Path.{_≡_}
 use lib.ListN.{length, length-set}
 use borrow.Author.Needs.{needs}
 use Rattle.printing.proofs.show.Statement.{statement}
 use Rattle.printing.proofs.show.Tie as tie
 
-abbrev Inv-loop : tie.InvT-loop
-Inv-loop text out₀ i₀ out i = length out ≡ length out₀
-
-abbrev μ-loop : tie.MeasureT-loop
-μ-loop text out₀ i₀ out i = length out - i
-
-loop-holds : tie.Need-loop-holds Inv-loop μ-loop
-loop-holds c = refl
-
-loop-less : tie.Need-loop-less Inv-loop μ-loop
-loop-less c = simp length-set (omega arith)
-
-loop-again : tie.Need-loop-again Inv-loop μ-loop
-loop-again c =
-    let at-loop = c .before .before in
-    length-set (at-loop .loop .out) (at-loop .loop .i) (c .shown .result) ∙ at-loop .loop .inv
-
-same-length : tie.Need-same-length Inv-loop μ-loop
-same-length c = c .before .loop .inv
-
 pub show-spec : {M : Type 1} → statement M
 show-spec =
     tie.close
     (tie.spec
-    Inv-loop
-    μ-loop
-    loop-holds
+    (λ text out₀ i₀ out i. length out ≡ length out₀)
+    (λ text out₀ i₀ out i. length out₀ - i)
     (search needs)
     (search needs)
     (search needs)
-    loop-less
-    loop-again
-    same-length
+    (search needs)
+    (search needs)
+    (λ c. simp length-set (c .before .before .loop .inv))
+    (search needs)
     (search needs))

@@ -9,9 +9,9 @@ use borrow.Fn.PlainCycle.{Measures, is, falls, and}
 use Rattle.reading.proofs.check.Reads as check
 use Rattle.reading.proofs.check.Kinds as check-kinds
 use Rattle.reading.proofs.+check.Lts-check as check-lts
-use Rattle.reading.proofs.rooms.of_16383.Reads as of-16383-reads
-use Rattle.reading.proofs.rooms.of_512.Reads as of-512-reads
-use Rattle.reading.proofs.rooms.of_64.Reads as of-64-reads
+use Rattle.check_rooms.proofs.of_16383.Reads as of-16383-reads
+use Rattle.check_rooms.proofs.of_512.Reads as of-512-reads
+use Rattle.check_rooms.proofs.of_64.Reads as of-64-reads
 use Rattle.reading.proofs.+check.{statement}
 use Rattle.reading.proofs.+check.Tie.{close}
 

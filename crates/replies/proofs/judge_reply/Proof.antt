@@ -1,6 +1,6 @@
 use mathlib.Core.Path.{sym, ap, _∙_}
 use Rattle.refusals.specs.declared.Report.{Report}
-use Rattle.evaluation.specs.declared.answer.Judgement.{Judgement}
+use Rattle.judging.specs.declared.answer.Judgement.{Judgement}
 use Rattle.judge_laws.specs.Answers.{said}
 use borrow.Author.Needs.{needs}
 use Rattle.replies.proofs.judge_reply.Statement.{statement}

@@ -1,7 +1,7 @@
 -- The row call's checks, and where they pass the tally's.
 use borrow.Author.Needs.{needs}
 use mathlib.Core.Path.{sym, _∙_}
-use Rattle.judge_checks.proofs.Outcomes.{judge-refused, judge-accepted}
+use Rattle.judge_conditions.proofs.Outcomes.{judge-refused, judge-accepted}
 use Rattle.judge_checks.proofs.checks.check_judge.Statement.{statement}
 use Rattle.judge_checks.proofs.checks.check_judge.Tie as tie
 

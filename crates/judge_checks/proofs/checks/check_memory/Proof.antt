@@ -3,7 +3,7 @@ use borrow.Author.Needs.{needs}
 use borrow.Author.Tests.{ltb-false}
 use mathlib.Core.Path.{sym, _∙_}
 use Rattle.refusals.proofs.First.{first-passed, first-append-accepted, first-append-refused}
-use Rattle.judge_checks.specs.Checks.{recordingChecks}
+use Rattle.judge_conditions.specs.Checks.{recordingChecks}
 use Rattle.judge_checks.proofs.checks.check_memory.Statement.{statement}
 use Rattle.judge_checks.proofs.checks.check_memory.Tie as tie
 

@@ -1,7 +1,7 @@
 -- The conditions in their order, each by its test.
 use borrow.Author.Tests.{eq-eqb, ne-eqb, lt-ltb, le-ltb, le-leb, lt-leb}
 use Rattle.table.specs.StepChecks.{drivenChecks}
-use Rattle.judge_checks.specs.Checks.{recordingChecks}
+use Rattle.judge_conditions.specs.Checks.{recordingChecks}
 use Rattle.judge_checks.proofs.checks.check_recording.Statement.{statement}
 use Rattle.judge_checks.proofs.checks.check_recording.Tie as tie
 

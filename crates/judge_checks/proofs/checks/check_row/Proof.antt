@@ -12,7 +12,7 @@ use Rattle.table.specs.Header.{headedChecked}
 use Rattle.table.proofs.Header.{accepted-headed}
 use Rattle.table.proofs.Accepted.{accepted-well-formed}
 use Rattle.heading.proofs.Order.{whole-body}
-use Rattle.judge_checks.proofs.Outcomes.{row-refused, row-accepted}
+use Rattle.judge_conditions.proofs.Outcomes.{row-refused, row-accepted}
 use Rattle.judge_checks.proofs.checks.check_row.Statement.{statement}
 use Rattle.judge_checks.proofs.checks.check_row.Tie as tie
 

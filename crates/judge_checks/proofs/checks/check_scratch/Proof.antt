@@ -5,7 +5,7 @@ use borrow.Author.Tests.{lt-ltb, le-ltb}
 use native.Mathlib.Nat.{mul-le-mul}
 use native.Mathlib.Omega.{arith}
 use Rattle.row_words.specs.Row.{rowWords}
-use Rattle.judge_checks.specs.Checks.{scratchChecks}
+use Rattle.judge_conditions.specs.Checks.{scratchChecks}
 use Rattle.judge_checks.proofs.checks.check_scratch.Statement.{statement}
 use Rattle.judge_checks.proofs.checks.check_scratch.Tie as tie
 

@@ -1,7 +1,7 @@
 -- A full tally is refused.
 use borrow.Author.Needs.{needs}
 use mathlib.Core.Path.{sym, _∙_}
-use Rattle.judge_checks.specs.Checks.{tallyChecks}
+use Rattle.judge_conditions.specs.Checks.{tallyChecks}
 use Rattle.judge_checks.proofs.checks.check_tally.Statement.{statement}
 use Rattle.judge_checks.proofs.checks.check_tally.Tie as tie
 

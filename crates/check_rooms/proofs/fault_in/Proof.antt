@@ -1,7 +1,7 @@
 -- The words, and then their uses by the marks.
 use borrow.Author.Needs.{needs}
-use Rattle.reading.proofs.rooms.fault_in.Statement.{statement}
-use Rattle.reading.proofs.rooms.fault_in.Tie as tie
+use Rattle.check_rooms.proofs.fault_in.Statement.{statement}
+use Rattle.check_rooms.proofs.fault_in.Tie as tie
 
 use-fault-requires : tie.Need-use-fault-requires
 use-fault-requires c κs =

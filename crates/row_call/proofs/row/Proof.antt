@@ -7,12 +7,12 @@ use native.Mathlib.Omega.{arith}
 use denote.Ref.{now}
 use Rattle.refusals.specs.declared.Report.{Report}
 use Rattle.refusals.specs.declared.Outcome.the-variants.{Accepted}
-use Rattle.evaluation.specs.Judging.{rowOutcome}
-use Rattle.evaluation.proofs.Accepted.{accepted-fillable, accepted-words}
-use Rattle.evaluation.proofs.LastRow.{words-before, last-small}
-use Rattle.judge_calls.proofs.Replied.{row-accepted, row-refused, scratch-told}
-use Rattle.judge_calls.proofs.row.Statement.{statement}
-use Rattle.judge_calls.proofs.row.Tie as tie
+use Rattle.judging.specs.Judging.{rowOutcome}
+use Rattle.judging.proofs.Accepted.{accepted-fillable, accepted-words}
+use Rattle.judging.proofs.LastRow.{words-before, last-small}
+use Rattle.row_call.proofs.Replied.{row-accepted, row-refused, scratch-told}
+use Rattle.row_call.proofs.row.Statement.{statement}
+use Rattle.row_call.proofs.row.Tie as tie
 
 module _ (c : tie.After-row-words) where
   abbrev start : tie.Start

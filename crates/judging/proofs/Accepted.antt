@@ -9,8 +9,8 @@ use Rattle.refusals.specs.declared.Outcome.the-variants.{Accepted}
 use Rattle.table.specs.Header.{body}
 use Rattle.table.proofs.Accepted.{accepted-well-formed}
 use Rattle.row_filling.specs.Filling.{Fillable}
-use Rattle.evaluation.specs.Judging.{rowOutcome}
-use Rattle.judge_checks.proofs.Outcomes.{Judgeable, judgeable}
+use Rattle.judging.specs.Judging.{rowOutcome}
+use Rattle.judge_conditions.proofs.Outcomes.{Judgeable, judgeable}
 
 pub accepted-facts : (t samples : List ℕ) (start driven : ℕ) (s : List ℕ) → rowOutcome t samples start driven s ≡ Accepted
     → Judgeable t (length samples) start driven (length s)

@@ -18,18 +18,18 @@ use Rattle.refusals.specs.Refusals.{first}
 use Rattle.table.specs.Table.{formulaOf, formulas, rule}
 use Rattle.table.specs.Header.{body}
 use Rattle.row_words.specs.Row.{rowWords}
-use Rattle.judge_checks.specs.Checks.{tallyChecks}
+use Rattle.judge_conditions.specs.Checks.{tallyChecks}
 use Rattle.refusals.proofs.First.{first-passed}
 use Rattle.table.proofs.Accepted.{accepted-well-formed}
 use Rattle.table.proofs.Formulas.{length-formulas}
 use Rattle.tally.specs.declared.Tally.{Tally}
-use Rattle.evaluation.specs.declared.answer.Judgement.{Judgement}
-use Rattle.evaluation.specs.declared.answer.Judgement.the-variants.{Judged as JudgedAs, Refused as NotJudged}
-use Rattle.evaluation.specs.declared.answer.Judged.{Judged}
+use Rattle.judging.specs.declared.answer.Judgement.{Judgement}
+use Rattle.judging.specs.declared.answer.Judgement.the-variants.{Judged as JudgedAs, Refused as NotJudged}
+use Rattle.judging.specs.declared.answer.Judged.{Judged}
 use Rattle.tally.specs.Tallies.{isFull, counted, tallyAfter}
 use Rattle.row_filling.specs.Filling.{Fillable, lassoOf, rowOf, rowsThen}
-use Rattle.evaluation.specs.Judging.{judgement, replyBy, rowOutcome, judgeOutcome, reply, scratchAfter, lastRow, partAt}
-use Rattle.judge_checks.proofs.Outcomes.{judge-both}
+use Rattle.judging.specs.Judging.{judgement, replyBy, rowOutcome, judgeOutcome, reply, scratchAfter, lastRow, partAt}
+use Rattle.judge_conditions.proofs.Outcomes.{judge-both}
 use Rattle.row_filling.proofs.Scratch.{width, row-part}
 use Rattle.row_filling.proofs.WordRow.{Inside, lasso-inside, part-small, part-end, part-for}
 

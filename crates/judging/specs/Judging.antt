@@ -12,13 +12,13 @@ use Rattle.refusals.specs.Refusals.{first}
 use Rattle.table.specs.Table.{formulas, rule}
 use Rattle.table.specs.Header.{body}
 use Rattle.tally.specs.declared.Tally.{Tally}
-use Rattle.evaluation.specs.declared.answer.Judgement.{Judgement}
-use Rattle.evaluation.specs.declared.answer.Judgement.the-variants.{Judged as JudgedAs, Refused as NotJudged}
-use Rattle.evaluation.specs.declared.answer.Judged.{Judged}
+use Rattle.judging.specs.declared.answer.Judgement.{Judgement}
+use Rattle.judging.specs.declared.answer.Judgement.the-variants.{Judged as JudgedAs, Refused as NotJudged}
+use Rattle.judging.specs.declared.answer.Judged.{Judged}
 unfoldable pub use Rattle.row_filling.specs.Filling.{lassoOf, rowOf}
 use Rattle.row_filling.specs.Filling.{rowsThen}
 use Rattle.tally.specs.Tallies.{counted}
-use Rattle.judge_checks.specs.Checks.{rowChecks, judgeChecks}
+use Rattle.judge_conditions.specs.Checks.{rowChecks, judgeChecks}
 
 -- whether the rule holds at position 0, at how many positions, and the first that fails, the number of samples if none
 abbrev pub judgement : Sequence → ℕ → Judgement

@@ -14,7 +14,7 @@ use Rattle.table.specs.Header.{headed, body, headedChecks, headedChecked}
 use Rattle.table.specs.StepChecks.{drivenChecks, letterChecks}
 use Rattle.table.proofs.Header.{accepted-headed, headed-accepted}
 use Rattle.row_words.specs.Row.{rowWords}
-use Rattle.judge_checks.specs.Checks.{recordingChecks, scratchChecks, tallyChecks, rowChecks, judgeChecks}
+use Rattle.judge_conditions.specs.Checks.{recordingChecks, scratchChecks, tallyChecks, rowChecks, judgeChecks}
 use Rattle.tally.specs.declared.Tally.{Tally}
 use Rattle.refusals.proofs.First.{Passed, first-passed, passed-first, first-append-accepted, first-append-refused, first-append-both}
 

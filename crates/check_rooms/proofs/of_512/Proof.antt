@@ -2,8 +2,8 @@
 use native.Mathlib.Omega.{arith}
 use Rattle.faults.proofs.Marking.{room-for, kept-none}
 use borrow.Author.Needs.{needs}
-use Rattle.reading.proofs.rooms.of_512.Statement.{statement}
-use Rattle.reading.proofs.rooms.of_512.Tie as tie
+use Rattle.check_rooms.proofs.of_512.Statement.{statement}
+use Rattle.check_rooms.proofs.of_512.Tie as tie
 
 fault-in-requires : tie.Need-fault-in-requires
 fault-in-requires c κs = (room-for _ 512 1026 512 (omega arith) (omega arith) (omega arith), kept-none 1026 512 (omega arith) (omega arith))

@@ -1,0 +1,2 @@
+// What a judgement answers and leaves, whoever makes it; no code.
+pub mod answer;

@@ -1,0 +1,44 @@
+// The judge's row call in lent numbers: its refusal number and place, and which part of the scratch is the rule's own row.
+ghost use mathlib.Core.Path.{_≡_};
+ghost use lib.ListN.{length};
+ghost use Rattle.table.specs.Header.{body};
+ghost use Rattle.judging.specs.Judging.{rowOutcome, scratchAfter};
+ghost use Rattle.replies.specs.Replies.{RowReply};
+use refusals::Outcome;
+use replies::row_words;
+
+// The row call: which part of the scratch is the rule's own row, by its first word and its length.
+pub fn row(
+    table: &[u32],
+    samples: &[u32],
+    start: usize,
+    driven: usize,
+    scratch: &mut [u64],
+    from: &mut usize,
+    words: &mut usize,
+    place: &mut usize,
+) -> u32
+    ensures { λ r. ⌜ RowReply
+        (rowOutcome (now (table .entry)) (now (samples .entry)) start driven (now (scratch .entry))) (length (body (now (table .entry)))) (length (now (samples .entry)))
+        r (now (from .exit)) (now (words .exit)) (now (place .exit)) ⌝ }
+    ensures { λ r. ⌜ now (scratch .exit) ≡ scratchAfter
+        (rowOutcome (now (table .entry)) (now (samples .entry)) start driven (now (scratch .entry)))
+        (now (table .entry)) (now (samples .entry)) start driven (now (scratch .entry)) ⌝ }
+{
+    match evaluation::fill(table, samples, start, driven, scratch) {
+        Outcome::Refused(why) => {
+            *from = 0;
+            *words = 0;
+            let report = refusals::report_of(why);
+            *place = report.1;
+            report.0
+        }
+        Outcome::Accepted => {
+            let width = row_words(samples.len());
+            *from = (table.len() - 2) * width;
+            *words = width;
+            *place = 0;
+            0
+        }
+    }
+}
