@@ -1,8 +1,8 @@
 // The calls of a case that check a table or make one of it, on slices that held a pattern, and what comes back.
 use case_input::input;
 use case_input::input::Case;
-use case_input::show;
-use case_input::sum;
+use case_output::show;
+use case_output::sum;
 
 pub fn check(c: Case, table: &[u32]) {
     let mut place: usize = 9;

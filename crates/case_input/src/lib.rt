@@ -1,4 +1,2 @@
-// What the case runner reads, and how it prints.
+// What the case runner reads.
 pub mod input;
-pub mod show;
-pub mod sum;

@@ -1,7 +1,7 @@
 // The judge's two calls of a case, on a scratch that held a pattern, and what comes back.
 use case_input::input::Case;
-use case_input::show;
-use case_input::sum;
+use case_output::show;
+use case_output::sum;
 
 pub fn judge(c: Case, table: &[u32], samples: &[u32]) {
     let mut scratch = [18446744073709551615u64; 2100];

@@ -1,7 +1,7 @@
 // One case: the call that it names.
 use case_input::input;
 use case_input::input::Case;
-use case_input::show;
+use case_output::show;
 
 fn call(c: Case, table: &[u32], samples: &[u32]) {
     let step = c.step;

@@ -1,7 +1,6 @@
 // The parts of all choices, fewer chosen words first and equal counts by lower number, joined by or.
 use placing::put;
 use table::kinds;
-use table::word;
 ghost use Prim.Native.Nat.{suc, _<_};
 ghost use lib.ListN.{length};
 ghost use Rattle.logic.specs.NormalForm.{normalForm};

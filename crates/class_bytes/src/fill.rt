@@ -2,7 +2,6 @@
 use operator_bytes::byte;
 use operator_bytes::kind;
 use operator_bytes::kind::PlainKind;
-use table::word;
 ghost use mathlib.Core.Path.{_≡_};
 ghost use mathlib.Core.List.{_++_};
 ghost use Prim.Native.Nat.{_-_, _≤_, _<_};

@@ -2,7 +2,6 @@
 use form_places::Rewriting;
 use slots::slot;
 use table::kinds;
-use table::word;
 ghost use Prim.Native.Nat.{_<_};
 ghost use mathlib.Core.Path.{_≡_};
 ghost use Rattle.logic.specs.Formula.{Formula};

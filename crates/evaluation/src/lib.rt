@@ -7,13 +7,11 @@ ghost use Rattle.logic.specs.Truth.{Sequence};
 ghost use Rattle.refusals.specs.declared.Outcome.the-variants.{Accepted};
 ghost use Rattle.table.specs.Table.{formulas, rule};
 ghost use Rattle.row_filling.specs.Filling.{Fillable, lassoOf, rowsThen};
-ghost use Rattle.judging.specs.Judging.{rowOutcome, judgeOutcome, judgement, replyBy, reply, scratchAfter, lastRow, partAt};
+ghost use Rattle.judging.specs.Judging.{judgeOutcome, judgement, replyBy, reply, scratchAfter};
 ghost use Rattle.judge_conditions.specs.Checks.{tallyChecks};
-ghost use Rattle.refusals.specs.Refusals.{first, outcomeNumber, outcomePlace};
+ghost use Rattle.refusals.specs.Refusals.{first};
 ghost use Rattle.tally.specs.Tallies.{tallyAfter};
 use judge_checks::checks::check_judge;
-use judge_checks::checks::check_row;
-use judge_checks::checks::row_words;
 use judging::answer::Judged;
 use judging::answer::Judgement;
 use refusals::Outcome;
@@ -21,6 +19,7 @@ use row_filling::fill_rows;
 use row_reading::count_held;
 use row_reading::first_failing;
 use row_reading::holds_at;
+use row_words::word::row_words;
 use tally::Tally;
 
 // The answer off the rule's row, and the tally after it.
@@ -82,59 +81,5 @@ pub fn judge(
             Judged { answer, tally }
         }
         Outcome::Accepted => judge_accepted(&table[1..], samples, start, scratch, tally),
-    }
-}
-
-// The rows of the words alone, with no tally.
-pub fn fill(
-    table: &[u32],
-    samples: &[u32],
-    start: usize,
-    driven: usize,
-    scratch: &mut [u64],
-) -> Outcome
-    ensures { λ r. ⌜ r ≡ rowOutcome (now (table .entry)) (now (samples .entry)) start driven (now (scratch .entry)) ⌝ }
-    ensures { λ r. ⌜ now (scratch .exit) ≡ scratchAfter r (now (table .entry)) (now (samples .entry)) start driven (now (scratch .entry)) ⌝ }
-{
-    match check_row(table, samples.len(), start, driven, scratch.len()) {
-        Outcome::Refused(why) => Outcome::Refused(why),
-        Outcome::Accepted => {
-            fill_rows(&table[1..], samples, start, scratch);
-            Outcome::Accepted
-        }
-    }
-}
-
-// The row call: the rule's row, the one of the table's last word, where it lies in the scratch, or an empty part with the refusal's number and place.
-// Of a slice that goes to the caller in part a contract says nothing at exit: what becomes of the whole scratch is said by `fill`.
-pub fn row<'a>(
-    table: &[u32],
-    samples: &[u32],
-    start: usize,
-    driven: usize,
-    scratch: &'a mut [u64],
-    number: &mut u32,
-    place: &mut usize,
-) -> &'a mut [u64]
-    ensures { λ r. ⌜ now r ≡ lastRow (rowOutcome (now (table .entry)) (now (samples .entry)) start driven (now (scratch .entry))) (now (table .entry)) (now (samples .entry)) start driven ⌝ }
-    ensures { λ r. ⌜ r .ptr ≡ partAt (rowOutcome (now (table .entry)) (now (samples .entry)) start driven (now (scratch .entry))) (now (table .entry)) (now (samples .entry)) (scratch .entry .ptr) ⌝ }
-    ensures { λ _. ⌜ now (number .exit) ≡ outcomeNumber (rowOutcome (now (table .entry)) (now (samples .entry)) start driven (now (scratch .entry))) ⌝ }
-    ensures { λ _. ⌜ now (place .exit) ≡ outcomePlace (rowOutcome (now (table .entry)) (now (samples .entry)) start driven (now (scratch .entry))) ⌝ }
-{
-    match fill(table, samples, start, driven, scratch) {
-        Outcome::Refused(why) => {
-            let report = refusals::report_of(why);
-            *number = report.0;
-            *place = report.1;
-            &mut scratch[0..0]
-        }
-        Outcome::Accepted => {
-            *number = 0;
-            *place = 0;
-            let words = row_words(samples.len());
-            let from = (table.len() - 2) * words;
-            let to = from + words;
-            &mut scratch[from..to]
-        }
     }
 }

@@ -7,7 +7,6 @@ use field_checks::letter_fault;
 use field_checks::operand_fault;
 use refusals::Outcome;
 use refusals::Refusal;
-use table::word;
 ghost use mathlib.Core.List.{[]};
 ghost use Prim.Native.Nat.{_≤_};
 ghost use lib.ListN.{length};

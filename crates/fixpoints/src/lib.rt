@@ -1,6 +1,5 @@
 // The until-like words, numbered from bit 0 upward in rising word number.
 use table::kinds;
-use table::word;
 ghost use Prim.Native.Nat.{_<_};
 ghost use mathlib.Core.Path.{_≡_};
 ghost use lib.ListN.{length, getD};

@@ -4,7 +4,6 @@
 // recurring form, a G and an or that the opening form of W or R is made of, and its opening form.
 use slots::slot;
 use table::kinds;
-use table::word;
 ghost use Prim.Native.Nat.{_<_};
 ghost use mathlib.Core.Path.{_≡_};
 ghost use Rattle.table.specs.Node as node;

@@ -1,6 +1,5 @@
 // The header of a table's words: kind 0, the class of the rule, the number of words.
 use class_bytes::fill;
-use table::word;
 ghost use mathlib.Core.Path.{_≡_};
 ghost use Prim.Native.Nat.{_≤_};
 ghost use lib.ListN.{length};

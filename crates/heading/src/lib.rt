@@ -2,7 +2,6 @@
 use refusals::Outcome;
 use refusals::Refusal;
 use table::answer::Answer;
-use table::word;
 ghost use mathlib.Core.Path.{_≡_};
 ghost use Rattle.table.specs.Header.{headedChecked};
 ghost use Rattle.heading.specs.Finished.{Finishable, Finished};

@@ -1,7 +1,6 @@
 // Letters that a recording does not drive.
 use refusals::Outcome;
 use refusals::Refusal;
-use table::word;
 ghost use mathlib.Core.Path.{_≡_};
 ghost use Rattle.refusals.specs.Refusals.{first};
 ghost use Rattle.table.specs.StepChecks.{isUndriven, letterChecks};

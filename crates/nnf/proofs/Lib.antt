@@ -1,4 +1,3 @@
 -- What the plain-form step promises.
 pub mod Promise
 pub mod Step
-pub mod Start

@@ -1,14 +1,11 @@
--- The plain form numbered into the part of a slice that is lent, and how the step ends.
+-- The plain form in the part of a slice that is lent, and how the step ends.
 use Prim.Native.Nat.{ℕ, _+_, _-_, _*_, _≤_, min}
 use native.Mathlib.Omega.{arith}
 use mathlib.Core.Path.{_≡_}
 use mathlib.Core.Bool.{true, false}
 use mathlib.Core.List.{List}
-use lib.ListN.{length, take, replicate, length-replicate, length-drop}
+use lib.ListN.{length, take, length-drop}
 use borrow.Rule.Slice.PartMut.{putMid}
-use Rattle.logic.specs.NegationNormalForm.{plain}
-use Rattle.logic.proofs.Numbers.{getD-zeros}
-use Rattle.table.proofs.Accepted.{accepted-well-formed}
 use Rattle.table.proofs.Header.{accepted-headed}
 use Rattle.refusals.specs.declared.Refusal.{Refusal}
 use Rattle.refusals.specs.declared.Outcome.the-variants as outcome
@@ -19,44 +16,15 @@ use Rattle.table.specs.Frame.{plainStep}
 use Rattle.table.proofs.Frame.{plain-early}
 use Rattle.table.specs.Limits.{plainLimit}
 use Rattle.table.specs.Header.{headed, body, headedChecked}
-use Rattle.table.specs.Table.{rule}
 use Rattle.table.specs.Steps.{plainTable}
-use Rattle.placing.specs.State.{state, Numbered}
 use Rattle.placing.specs.Written.{Written, Ends}
-use Rattle.draft.specs.Drafted.{Drafted}
-use Rattle.draft.specs.Numberable.{Numberable}
-use Rattle.placing.proofs.Putting.{numbered-none}
 use Rattle.placing.proofs.Written.{ends-refused}
 use Rattle.heading.specs.Finished.{Finishable, Finished, Given}
 use Rattle.heading.proofs.Ends.{given-ends}
 use Rattle.heading.proofs.Lent.{lent-finishable, lent-given}
-use Rattle.draft.proofs.Remembering.{remembered-none}
-use Rattle.nnf.specs.Writable.{slots, Writable, Formable, Empty}
+use Rattle.plain_rooms.specs.Rooms.{slots}
+use Rattle.nnf.specs.Formable.{Formable}
 use Rattle.nnf.proofs.Promise.{plain-short, plain-accepted}
-
--- what drafting and numbering are asked with, in slots that are all 0
-pub nothing-drafted : {t out : List ℕ} → Writable t out → Empty t (replicate slots 0)
-nothing-drafted {t} q = record {
-  limit = q .limit;
-  accepted = q .accepted;
-  slots = omega (arith, length-replicate {A = ℕ} slots 0, q .room, accepted-well-formed false (q .limit) t (q .accepted) .few);
-  few = omega (arith, length-replicate {A = ℕ} slots 0);
-  empty = getD-zeros slots;
-}
-
-pub nothing-numbered : {t out : List ℕ} → Writable t out → Numbered (state out (replicate (2 * slots + 2) 0))
-nothing-numbered {t} {out} q = numbered-none out (2 * slots + 2) (omega (arith, q .few)) (omega arith)
-
-pub numberable : {d built : List ℕ} {root : ℕ} (t : List ℕ) → length d ≡ slots → Drafted d (plain true (rule t)) root
-    → Numberable d root (replicate slots 0) (replicate slots 0) built
-numberable {d} {built} t e drafted = record {
-  formula = plain true (rule t);
-  drafted = drafted;
-  few = omega arith;
-  numbers-long = omega (arith, length-replicate {A = ℕ} slots 0);
-  stack-long = omega (arith, length-replicate {A = ℕ} slots 0);
-  remembered = remembered-none d slots built;
-}
 
 module _ (l : Limits) (t result : List ℕ) where
   pub refused : (r : Refusal) → headedChecked false (l .written) t ≡ outcome.Refused r → Ends (plainStep l) t result (Refused r) result

@@ -1,2 +1,2 @@
 -- What the plain-form step's promises cite.
-pub mod Writable
+pub mod Formable

@@ -1,43 +1,20 @@
 // Prints the normal form of a rule that is read from standard input: a written table, its words least byte first, or after the argument
 // `text` a text. The form is the count in decimal, then its header and each word on its line in eight hexadecimal digits, capitals, or
 // after the argument `as-text` a text. A refusal prints one line: refused, the number, at, the place.
+use console::argument;
+use console::input::rest;
+use console::input::without_line_end;
 use refusals::Outcome;
-use refusals::Refusal;
+use reports::refused;
+use reports::refused_text;
 use table::answer::Answer;
-
-mod argument;
-mod print;
-
-fn refused(r: Refusal) {
-    let report = refusals::report_of(r);
-    print::refused(report.0, report.1);
-}
-
-// One more piece of the input, and whether there was any: how many bytes it has beyond whole words.
-fn piece(odd: &mut usize) -> bool {
-    let mut buffer = io::buffer();
-    let n = io::read_full(0, &mut buffer);
-    *odd = (*odd % 4 + n % 4) % 4;
-    0 < n
-}
-
-// How many bytes the rest of the input has beyond whole words. A proved loop has to end, so it counts down from a number that
-// no input uses up.
-fn rest() -> usize {
-    let mut odd: usize = 0;
-    let mut turns = u64::MAX;
-    while 0 < turns && piece(&mut odd) {
-        turns -= 1;
-    }
-    odd
-}
 
 // The form of a table, printed.
 fn answer(table: &[u32], as_text: bool) {
     let mut plain = [0u32; 131];
     let mut form = [0u32; 4097];
     match pipeline::normal_form(table, &mut plain, &mut form) {
-        Answer::Made(n) => print::form(&form, n, as_text),
+        Answer::Made(n) => form_printing::form(&form, n, as_text),
         Answer::Refused(r) => refused(r),
     }
 }
@@ -67,15 +44,6 @@ fn table(as_text: bool) {
     }
 }
 
-// Why a text is refused; where it departs from the grammar, the text itself too.
-fn refused_text(r: Refusal, bytes: &[u8]) {
-    let report = refusals::report_of(r);
-    print::refused(report.0, report.1);
-    if report.0 == 19 {
-        print::departure(bytes, report.1);
-    }
-}
-
 fn answer_text(bytes: &[u8], as_text: bool) {
     let mut words = [0u32; 65];
     match text::read(bytes, &mut words) {
@@ -96,7 +64,7 @@ fn text_input(as_text: bool) {
     rest();
     let whole: &[u8] = &bytes;
     if n <= whole.len() {
-        let m = printing::without_line_end(&whole[0..n]);
+        let m = without_line_end(&whole[0..n]);
         if m <= whole.len() {
             answer_text(&whole[0..m], as_text);
         }

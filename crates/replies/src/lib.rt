@@ -1,12 +1,10 @@
 // The answers of the steps as lent numbers: document 01's refusal number, 0 when the call is accepted, its place, and what an accepted call says.
 ghost use mathlib.Core.Path.{_≡_};
 ghost use Rattle.refusals.specs.Refusals.{outcomeNumber, outcomePlace};
-ghost use Rattle.row_words.specs.Row.{rowWords};
 ghost use Rattle.judge_laws.specs.Answers.{said};
 ghost use Rattle.replies.specs.Replies.{FormReply};
 use judging::answer::Judgement;
 use refusals::Outcome;
-use table::answer;
 use table::answer::Answer;
 
 pub fn reply(o: Outcome, place: &mut usize) -> u32
@@ -22,10 +20,19 @@ pub fn reply(o: Outcome, place: &mut usize) -> u32
 pub fn form_reply(a: Answer, words: &mut usize, place: &mut usize) -> u32
     ensures { λ r. ⌜ FormReply a r (now (words .exit)) (now (place .exit)) ⌝ }
 {
-    let report = answer::report_of(a);
-    *words = answer::words_of(a);
-    *place = report.1;
-    report.0
+    match a {
+        Answer::Made(n) => {
+            *words = n;
+            *place = 0;
+            0
+        }
+        Answer::Refused(r) => {
+            let report = refusals::report_of(r);
+            *words = 0;
+            *place = report.1;
+            report.0
+        }
+    }
 }
 
 pub fn judge_reply(
@@ -62,11 +69,4 @@ pub fn judge_reply(
             report.0
         }
     }
-}
-
-// The 64-bit words of a row of so many samples.
-pub fn row_words(samples: usize) -> usize
-    ensures { λ r. ⌜ r ≡ rowWords samples ⌝ }
-{
-    samples / 64 + (samples % 64 + 63) / 64
 }

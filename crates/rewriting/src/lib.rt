@@ -6,7 +6,6 @@ use form_places::operator;
 use form_places::place;
 use slots::slot;
 use table::kinds;
-use table::word;
 ghost use Prim.Native.Nat.{_<_};
 ghost use Rattle.table.specs.Node as node;
 ghost use Rattle.form_places.specs.Places as places;

@@ -5,7 +5,7 @@ ghost use Rattle.table.specs.Header.{body};
 ghost use Rattle.judging.specs.Judging.{rowOutcome, scratchAfter};
 ghost use Rattle.replies.specs.Replies.{RowReply};
 use refusals::Outcome;
-use replies::row_words;
+use row_words::word::row_words;
 
 // The row call: which part of the scratch is the rule's own row, by its first word and its length.
 pub fn row(
@@ -25,7 +25,7 @@ pub fn row(
         (rowOutcome (now (table .entry)) (now (samples .entry)) start driven (now (scratch .entry)))
         (now (table .entry)) (now (samples .entry)) start driven (now (scratch .entry)) ⌝ }
 {
-    match evaluation::fill(table, samples, start, driven, scratch) {
+    match rule_rows::fill(table, samples, start, driven, scratch) {
         Outcome::Refused(why) => {
             *from = 0;
             *words = 0;

@@ -5,11 +5,10 @@ ghost use lib.ListN.{length, take};
 ghost use Rattle.table.specs.Table.{formulas};
 ghost use Rattle.row_words.specs.Writing.{RowFor};
 ghost use Rattle.row_filling.specs.Filling.{lassoOf, rowsThen, Fillable, firstOperand};
-use judge_checks::checks::row_words;
 use operand_rows::prepare;
 use operand_rows::write_word;
 use operators::operator::of_kind;
-use table::word;
+use row_words::word::row_words;
 
 // The word on the left: a word with one operand is read as having it on both sides.
 fn first_operand(word: u32) -> usize

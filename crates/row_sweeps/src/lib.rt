@@ -6,9 +6,9 @@ ghost use Rattle.logic.specs.Truth.{Sequence, sweep};
 ghost use Rattle.row_words.specs.Row as rows;
 ghost use Rattle.row_words.specs.Writing.{RowFor};
 use row_words::word::filled;
-use row_words::word::first;
 use row_words::word::ones;
-use row_words::word::swept;
+use word_steps::first;
+use word_steps::swept;
 
 // What a sweep from a position on comes to: word by word upward, as long as p holds to the word's end.
 pub fn value_at(g: &[u64], p: &[u64], positions: usize, from: usize, end: bool) -> bool

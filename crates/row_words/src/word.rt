@@ -1,15 +1,21 @@
 // One word of a row at a time: n positions, 1 to 64 of them, in the n low bits, and nothing above them.
 ghost use mathlib.Core.Path.{_≡_};
-ghost use mathlib.Core.Bool.{false, cond};
+ghost use mathlib.Core.Bool.{cond};
 ghost use Prim.Native.Nat.{ℕ, suc, _+_, _-_, _*_, _%_, _^_, _≤_, _<_};
 ghost use lib.Dec.{ltb, eqb};
 ghost use lib.ListN.{length, getD};
 ghost use Rattle.logic.specs.Bit as bits;
-ghost use Rattle.logic.specs.Truth.{Sequence, sweep, across};
+ghost use Rattle.logic.specs.Truth.{Sequence};
 ghost use Rattle.row_words.specs.Row as rows;
 ghost use Rattle.row_words.specs.Writing as writing;
-use super::connective::Connective;
-use std::num::wrapping_add_u64;
+
+// How many words a row of so many positions has.
+pub fn row_words(positions: usize) -> usize
+    requires { ⌜ positions ≤ 4096 ⌝ }
+    ensures { λ r. ⌜ r ≡ rows.rowWords positions ⌝ }
+{
+    (positions + 63) / 64
+}
 
 // How many of the positions stand in word w of their row.
 pub fn filled(positions: usize, w: usize) -> usize
@@ -47,26 +53,6 @@ pub fn constant(value: bool, n: usize) -> u64
     0
 }
 
-// A connective at n positions at once.
-pub fn join(op: Connective, x: u64, y: u64, n: usize) -> u64
-    requires { ⌜ (1 ≤ n) × (n ≤ 64) ⌝ }
-    ensures { λ r. ⌜ ((A B : Sequence) (i : ℕ)
-        → x ≡ rows.packBits A i n
-        → y ≡ rows.packBits B i n
-        → r ≡ rows.packBits (across (writing.joins op) A B) i n) ⌝ }
-{
-    match op {
-        Connective::Never => 0,
-        Connective::Always => ones(n),
-        Connective::Left => x,
-        Connective::Right => y,
-        Connective::And => x & y,
-        Connective::Or => x | y,
-        Connective::Implies => (ones(n) ^ x) | y,
-        Connective::Not => ones(n) ^ y,
-    }
-}
-
 // The next position's value at n positions: the last one takes the first of the word after.
 pub fn shift(x: u64, after: u64, n: usize) -> u64
     requires { ⌜ (1 ≤ n) × (n ≤ 64) ⌝ }
@@ -75,52 +61,6 @@ pub fn shift(x: u64, after: u64, n: usize) -> u64
         → r ≡ rows.packBits (λ k. cond (ltb (suc k) (i + n)) (A (suc k)) (eqb (after % 2) 1)) i n) ⌝ }
 {
     (x >> 1) | ((after % 2) << (n - 1))
-}
-
-// A backward sweep with nothing carried in, in six doublings: once the width is d, bit k of g says whether the sweep over the d
-// positions from k on holds, and bit k of p whether p holds throughout them.
-pub fn closed(g: u64, p: u64) -> u64
-    ensures { λ r. ⌜ ((G P : Sequence) (i n : ℕ) → n ≤ 64
-        → g ≡ rows.packBits G i n
-        → p ≡ rows.packBits P i n
-        → r ≡ rows.packBits (λ k. sweep G P false k (i + n - k)) i n) ⌝ }
-{
-    let g2 = g | (p & (g >> 1));
-    let p2 = p & (p >> 1);
-    let g4 = g2 | (p2 & (g2 >> 2));
-    let p4 = p2 & (p2 >> 2);
-    let g8 = g4 | (p4 & (g4 >> 4));
-    let p8 = p4 & (p4 >> 4);
-    let g16 = g8 | (p8 & (g8 >> 8));
-    let p16 = p8 & (p8 >> 8);
-    let g32 = g16 | (p16 & (g16 >> 16));
-    let p32 = p16 & (p16 >> 16);
-    g32 | (p32 & (g32 >> 32))
-}
-
-// What a sweep of n positions comes to at the first of them. The lowest bits of p, up to the first one that fails, change when 1 is added;
-// where p fails nowhere, the carry comes through.
-pub fn first(g: u64, p: u64, carry: bool, n: usize) -> bool
-    requires { ⌜ (1 ≤ n) × (n ≤ 64) ⌝ }
-    ensures { λ r. ⌜ ((G P : Sequence) (i : ℕ)
-        → g ≡ rows.packBits G i n
-        → p ≡ rows.packBits P i n
-        → r ≡ sweep G P carry i n) ⌝ }
-{
-    let reached = g & (p ^ wrapping_add_u64(p, 1)) != 0;
-    let kept = p == ones(n);
-    reached | (kept & carry)
-}
-
-// A backward sweep of n positions with the carry taken in: at the last of them it is as good as the goal, if p holds there.
-pub fn swept(g: u64, p: u64, carry: bool, n: usize) -> u64
-    requires { ⌜ (1 ≤ n) × (n ≤ 64) ⌝ }
-    ensures { λ r. ⌜ ((G P : Sequence) (i : ℕ)
-        → g ≡ rows.packBits G i n
-        → p ≡ rows.packBits P i n
-        → r ≡ rows.packBits (λ k. sweep G P carry k (i + n - k)) i n) ⌝ }
-{
-    closed(g | (p & ((carry as u64) << (n - 1))), p)
 }
 
 // A letter, or its denial, at the n samples from the first on.

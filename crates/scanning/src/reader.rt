@@ -4,7 +4,6 @@ use settling::end;
 use settling::is_prefix;
 use signs::Sign;
 use signs::sign_of;
-use table::word;
 ghost use mathlib.Core.Path.{_≡_};
 ghost use mathlib.Core.List.{List, _∷_};
 ghost use Prim.Native.Nat.{ℕ, _+_, _*_, _-_, _≤_, _<_, suc};

@@ -1,7 +1,6 @@
 // The end of an operand: the words of the prefixes that wait for it are put. The stack holds a word for each prefix and each operator whose
 // right operand is not yet read, and 0 for a bracket without an operator.
 use placing::put;
-use table::word;
 ghost use mathlib.Core.Path.{_≡_};
 ghost use Prim.Native.Nat.{_+_, _≤_, suc};
 ghost use Rattle.table.specs.Numbering as numbering;

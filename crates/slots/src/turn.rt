@@ -1,6 +1,5 @@
 // What numbering needs of a slot next.
 use crate::slot;
-use table::word;
 ghost use mathlib.Core.Path.{_≡_};
 ghost use Prim.Native.Nat.{_<_};
 ghost use lib.ListN.{getD};

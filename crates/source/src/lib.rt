@@ -1,5 +1,4 @@
 // A word of a table, taken apart, and the kind of its denial.
-use table::word;
 ghost use Rattle.source.specs.Source.{Inside, WordAt};
 
 pub mod kinds;

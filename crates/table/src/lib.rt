@@ -2,4 +2,3 @@
 pub mod answer;
 pub mod kinds;
 pub mod limits;
-pub mod word;

@@ -98,26 +98,3 @@ module _ {text : List ℕ} {s : draft.State} {r : ℕ} (p : Parsed text s r) (z 
 
   pub copied : (n : ℕ) → n ≡ draft.count s → take n (s .out) ≡ tableOf (p .reads z .0)
   copied n e = ap (λ (k : ℕ). take k (s .out)) e ∙ p .reads z .2
-
--- words copied after the place of their header
-module _ {words : List ℕ} (q : Headable words) (result : List ℕ) {part : List ℕ} (long : length words < length result)
-    (same : length part ≡ length (take (length result - 1) (body result)))
-    (e : part ≡ take (length words) words ++ drop (length words) (take (length result - 1) (body result))) where
-  written : Written words (take (length result - 1) (body result)) part (length words)
-  written = record {
-    unfit = λ z. absurd (omega (arith, some q));
-    fit = λ z. record {
-      fitting = fits-true (length words) _ (omega (arith, few q, length-drop 1 result, length-take-le (length result - 1) (body result) (omega (arith, length-drop 1 result))));
-      long = refl;
-      words = e ∙ ap (λ (l : List ℕ). l ++ drop (length words) (take (length result - 1) (body result))) (take-all (length words) words (omega arith));
-    };
-  }
-
-  lent : length result - 1 ≡ min (length (body result)) (length words + length (body result))
-  lent = omega (arith, length-drop 1 result)
-
-  pub copied-finishable : Finishable (putMid 1 (length result - 1) result part) (length words)
-  copied-finishable = lent-finishable words result (omega arith) (length words + length (body result)) (omega arith) lent same written (λ z. q)
-
-  pub copied-given : {m : List ℕ} {r : Answer} → Finished (putMid 1 (length result - 1) result part) (length words) m r → Given (headed words) result m r
-  copied-given = lent-given words result (omega arith) (length words + length (body result)) (omega arith) lent same written

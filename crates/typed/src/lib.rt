@@ -1,5 +1,4 @@
 // How many bytes a rule has as text, in the notation in which rules are typed: `true`, `p1`, `!p1`, `Xp1`, `(p1 U p2)`.
-use table::word;
 ghost use mathlib.Core.Path.{_≡_};
 ghost use Prim.Native.Nat.{_<_, _≤_, min};
 ghost use lib.ListN.{length, getD, take};

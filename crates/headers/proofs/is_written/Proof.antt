@@ -11,7 +11,7 @@ use Rattle.headers.proofs.is_written.Statement.{statement}
 use Rattle.headers.proofs.is_written.Tie as tie
 use Rattle.headers.proofs.is_written.Reads as reads
 use Rattle.headers.proofs.is_written.Lts as lts
-use Rattle.table.proofs.word.kind.Reads as kind-reads
+use Rattle.word.proofs.kind.Reads as kind-reads
 
 abbrev Inv-loop : tie.InvT-loop
 Inv-loop words i₀ i = isWritten words ≡ isWritten (drop i words)

@@ -14,21 +14,24 @@ use Rattle.row_call.proofs.Replied.{row-accepted, row-refused, scratch-
 use Rattle.row_call.proofs.row.Statement.{statement}
 use Rattle.row_call.proofs.row.Tie as tie
 
-module _ (c : tie.After-row-words) where
+module _ (c : tie.After-enum-told) where
   abbrev start : tie.Start
-  start = c .before .before .before .before .before .before .before .before .before .before
+  start = c .before .before .before .before .before .before .before .before .before
 
   abbrev t : List ℕ
   t = now (start .args .table)
 
   accepted : rowOutcome t (now (start .args .samples)) (start .args .start) (start .args .driven) (now (start .args .scratch)) ≡ Accepted
-  accepted = sym (c .before .before .before .before .before .fill .ensures .0) ∙ c .before .enum-told .given .1
+  accepted = sym (c .before .before .before .before .fill .ensures .0) ∙ c .enum-told .given .1
+
+row-words-requires : tie.Need-row-words-requires
+row-words-requires c κs = accepted-fillable _ _ _ _ _ (accepted c) .few
 
 sub-from : tie.Need-sub-from
-sub-from c = omega (arith, accepted-words _ _ _ _ _ (accepted c))
+sub-from c = omega (arith, accepted-words _ _ _ _ _ (accepted (c .before)))
 
 mul-from : tie.Need-mul-from
-mul-from c = omega (arith, last-small _ _ _ _ _ _ (accepted-fillable _ _ _ _ _ (accepted c)) (words-before (t c)) (c .row-words .ensures))
+mul-from c = omega (arith, last-small _ _ _ _ _ _ (accepted-fillable _ _ _ _ _ (accepted (c .before))) (words-before (t (c .before))) (c .row-words .ensures))
 
 returns : tie.Need-returns
 returns c =
@@ -41,7 +44,7 @@ returns c =
 returns-2 : tie.Need-returns-2
 returns-2 c =
     let e = c .before .before .before .before .before .fill .ensures in (
-      row-accepted (t c) (accepted c) (c .row-words .ensures),
+      row-accepted (t (c .before)) (accepted (c .before)) (c .row-words .ensures),
       scratch-told _ _ _ _ _ (e .0) (e .1),
     )
 
@@ -53,7 +56,7 @@ row-spec =
     (search needs)
     (search needs)
     (search needs)
-    (search needs)
+    row-words-requires
     sub-from
     mul-from
     (search needs)

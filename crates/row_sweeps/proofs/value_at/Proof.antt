@@ -8,7 +8,7 @@ use borrow.Author.Tests.{eq-eqb, ne-eqb}
 use Rattle.logic.specs.Truth.{Sequence, sweep}
 use Rattle.row_words.specs.Row as rows
 use Rattle.row_words.proofs.Sweep.{sweep-done}
-use Rattle.row_words.proofs.Words.{kept-law}
+use Rattle.word_steps.proofs.Words.{kept-law}
 use Rattle.rows.proofs.Rows.{goal-reached, keep-failed, word-passed}
 use Rattle.row_sweeps.proofs.Sweeps.{word-from}
 use Rattle.row_sweeps.proofs.value_at.Statement.{statement}

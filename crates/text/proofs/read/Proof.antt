@@ -39,8 +39,8 @@ returns-3 c =
     let n = counted p z _ (at-count .count .ensures) in
     outcome-many _ _ (short at-count) (p .reads z .0) (p .reads z .1) (omega (arith, n, c .if3 .taken))
 
-answer-requires : tie.Need-answer-requires
-answer-requires c κs =
+write-requires : tie.Need-write-requires
+write-requires c κs =
     let at-few = c .before .before in
     let at-rule = at-few .before in
     let at-count = at-rule .before in
@@ -56,15 +56,15 @@ answer-requires c κs =
 
 returns-4 : tie.Need-returns-4
 returns-4 c =
-    let at-answer = c .before .before in
-    let at-few = at-answer .before .before .before in
+    let at-write = c .before .before in
+    let at-few = at-write .before .before .before in
     let at-rule = at-few .before in
     let at-count = at-rule .before in
     let p = parsed at-count .parse .ensures in
     let z = at-rule .if2 .left in
     let n = counted p z _ (at-count .count .ensures) in
     outcome-given (start at-count .args .text .now) (start at-count .args .result .now) (short at-count) (p .reads z .0) (p .reads z .1) (omega (arith, n, at-few .if3 .left))
-    (copied p z _ (at-count .count .ensures)) (at-answer .answer .ensures)
+    (copied p z _ (at-count .count .ensures)) (at-write .write .ensures)
 
 pub read-spec : {M : Type 1} → statement M
 read-spec =
@@ -81,6 +81,6 @@ read-spec =
     returns-3
     (λ c. search needs)
     (λ c. let at-count = c .before .before .before in sym (length-take-le _ (parsed at-count .parse .last .1 .1 .0) (omega (arith, at-count .count .ensures, parsed at-count .parse .ensures .numbered .within))))
-    answer-requires
+    write-requires
     (λ c. search needs)
     returns-4)

@@ -1,0 +1,3 @@
+// How the case runner prints.
+pub mod show;
+pub mod sum;

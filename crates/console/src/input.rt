@@ -1,0 +1,42 @@
+// A text without its line end, and what is left of the input.
+ghost use Prim.Native.Nat.{_≤_};
+ghost use lib.ListN.{length};
+
+// One more piece of the input, and whether there was any: how many bytes it has beyond whole words.
+fn piece(odd: &mut usize) -> bool {
+    let mut buffer = io::buffer();
+    let n = io::read_full(0, &mut buffer);
+    *odd = (*odd % 4 + n % 4) % 4;
+    0 < n
+}
+
+// How many bytes the rest of the input has beyond whole words. A proved loop has to end, so it counts down from a number that
+// no input uses up.
+pub fn rest() -> usize {
+    let mut odd: usize = 0;
+    let mut turns = u64::MAX;
+    while 0 < turns && piece(&mut odd) {
+        turns -= 1;
+    }
+    odd
+}
+
+// How many bytes of a text are left without its final line end.
+pub fn without_line_end(text: &[u8]) -> usize
+    ensures { λ r. ⌜ r ≤ length (now (text .entry)) ⌝ }
+{
+    let n = text.len();
+    if n == 0 {
+        return 0;
+    }
+    if text[n - 1] != b'\n' {
+        return n;
+    }
+    if n == 1 {
+        return 0;
+    }
+    if text[n - 2] != b'\r' {
+        return n - 1;
+    }
+    n - 2
+}

@@ -1,0 +1,2 @@
+-- Words copied under their header.
+pub mod Copied

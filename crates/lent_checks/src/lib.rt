@@ -1,0 +1,82 @@
+// The checks of what a judgement is lent beside its table: the recording, the scratch and the tally, each over the numbers that it looks at.
+ghost use mathlib.Core.Path.{_≡_};
+ghost use Prim.Native.Nat.{_≤_};
+ghost use mathlib.Core.List.{_++_};
+ghost use Rattle.refusals.specs.Refusals.{first};
+ghost use lib.ListN.{length};
+ghost use Rattle.table.specs.StepChecks.{letterChecks};
+ghost use Rattle.judge_conditions.specs.Checks.{recordingChecks, scratchChecks, tallyChecks};
+use letter_checks::check_letters;
+use refusals::Outcome;
+use refusals::Refusal;
+use row_words::word::row_words;
+use tally::Tally;
+
+// 13 to 15, then 22.
+pub fn check_recording(samples: usize, start: usize, driven: usize) -> Outcome
+    ensures { λ r. ⌜ r ≡ first (recordingChecks samples start driven) ⌝ }
+{
+    if samples == 0 {
+        return Outcome::Refused(Refusal::NoSample);
+    }
+    if samples > 4096 {
+        return Outcome::Refused(Refusal::TooManySamples);
+    }
+    if start >= samples {
+        return Outcome::Refused(Refusal::LoopStartOutside);
+    }
+    if driven > 32 {
+        return Outcome::Refused(Refusal::TooManyDriven);
+    }
+    Outcome::Accepted
+}
+
+// 16.
+pub fn check_scratch(words: usize, samples: usize, scratch: usize) -> Outcome
+    requires { ⌜ (words ≤ 16383) × (samples ≤ 4096) ⌝ }
+    ensures { λ r. ⌜ r ≡ first (scratchChecks words samples scratch) ⌝ }
+{
+    if scratch < words * row_words(samples) {
+        return Outcome::Refused(Refusal::ScratchTooShort);
+    }
+    Outcome::Accepted
+}
+
+// 21, then 16.
+pub fn check_words(table: &[u32], samples: usize, driven: usize, scratch: usize) -> Outcome
+    requires { ⌜ (length (now table) ≤ 16383) × (samples ≤ 4096) ⌝ }
+    ensures { λ r. ⌜ r ≡ first (letterChecks driven 1 (now (table .entry)) ++ scratchChecks (length (now (table .entry))) samples scratch) ⌝ }
+{
+    match check_letters(table, driven) {
+        Outcome::Refused(why) => Outcome::Refused(why),
+        Outcome::Accepted => check_scratch(table.len(), samples, scratch),
+    }
+}
+
+// 13 to 15, 22, 21 and 16, of the words of a table that passes the checks before them.
+pub fn check_memory(
+    table: &[u32],
+    samples: usize,
+    start: usize,
+    driven: usize,
+    scratch: usize,
+) -> Outcome
+    requires { ⌜ length (now table) ≤ 16383 ⌝ }
+    ensures { λ r. ⌜ r ≡ first (recordingChecks samples start driven
+        ++ (letterChecks driven 1 (now (table .entry)) ++ scratchChecks (length (now (table .entry))) samples scratch)) ⌝ }
+{
+    match check_recording(samples, start, driven) {
+        Outcome::Refused(why) => Outcome::Refused(why),
+        Outcome::Accepted => check_words(table, samples, driven, scratch),
+    }
+}
+
+// 17.
+pub fn check_tally(tally: Tally) -> Outcome
+    ensures { λ r. ⌜ r ≡ first (tallyChecks tally) ⌝ }
+{
+    if tally.full() {
+        return Outcome::Refused(Refusal::TallyFull);
+    }
+    Outcome::Accepted
+}

@@ -1,0 +1,3 @@
+-- A plain form drafted and numbered.
+pub mod Start
+pub mod Rooms

@@ -1,0 +1,2 @@
+-- What a plain form is drafted and numbered with.
+pub mod Rooms

@@ -1,0 +1,52 @@
+// Tests of rows that need no sweep.
+ghost use mathlib.Core.Path.{_≡_};
+ghost use mathlib.Core.Bool.{true};
+ghost use Prim.Native.Nat.{_-_};
+ghost use lib.ListN.{length};
+ghost use Rattle.logic.specs.Truth.{Sequence, sweep};
+ghost use Rattle.row_words.specs.Row as rows;
+ghost use Rattle.row_words.specs.Writing.{RowFor};
+use row_words::word::filled;
+use row_words::word::ones;
+use row_words::word::shift;
+
+// Whether the goal or the keep holds at every position: then a sweep with the carry holds at every one.
+pub fn everywhere(g: &[u64], p: &[u64], positions: usize) -> bool
+    requires { ⌜ RowFor positions (now g) × (length (now p) ≡ length (now g)) ⌝ }
+    ensures { λ r. ⌜ (r ≡ true → (G P : Sequence)
+        → now (g .entry) ≡ rows.row positions G
+        → now (p .entry) ≡ rows.row positions P
+        → rows.row positions (λ i. true) ≡ rows.row positions (λ i. sweep G P true i (positions - i))) ⌝ }
+{
+    let last = g.len() - 1;
+    let mut missing: u64 = 0;
+    let mut w = 0;
+    while w < last {
+        missing = missing | ((g[w] | p[w]) ^ u64::MAX);
+        w += 1;
+    }
+    missing = missing | ((g[last] | p[last]) ^ ones(filled(positions, last)));
+    missing == 0
+}
+
+// Whether the goal is all that a sweep comes to: one step of it, from each position's next one, adds nothing.
+pub fn settled(g: &[u64], p: &[u64], positions: usize, end: bool) -> bool
+    requires { ⌜ RowFor positions (now g) × (length (now p) ≡ length (now g)) ⌝ }
+    ensures { λ r. ⌜ (r ≡ true → (G P : Sequence)
+        → now (g .entry) ≡ rows.row positions G
+        → now (p .entry) ≡ rows.row positions P
+        → rows.row positions G ≡ rows.row positions (λ i. sweep G P end i (positions - i))) ⌝ }
+{
+    let last = g.len() - 1;
+    let mut added: u64 = 0;
+    let mut w = 0;
+    while w < last {
+        let x = g[w];
+        added = added | ((x | (p[w] & shift(x, g[w + 1], 64))) ^ x);
+        w += 1;
+    }
+    let x = g[last];
+    let next = shift(x, end as u64, filled(positions, last));
+    added = added | ((x | (p[last] & next)) ^ x);
+    added == 0
+}

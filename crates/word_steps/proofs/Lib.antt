@@ -1,0 +1,3 @@
+-- The laws of one word made of others.
+pub mod Doubling
+pub mod Words
