@@ -9,31 +9,60 @@ mod timing;
 use std::hint::black_box;
 
 extern "C" {
-    fn before_showrule_normal(table: *const u32, words: usize, result: *mut u32, room: usize, form: *mut usize, place: *mut usize) -> u32;
-    fn showrule_normal(table: *const u32, words: usize, result: *mut u32, room: usize, form: *mut usize, place: *mut usize) -> u32;
+    #[cfg(limits)]
+    fn before_showrule_normal(
+        table: *const u32, words: usize, written: usize, until_like: usize, result: *mut u32, room: usize, form: *mut usize,
+        place: *mut usize,
+    ) -> u32;
+    #[cfg(not(limits))]
+    fn before_showrule_normal(
+        table: *const u32, words: usize, result: *mut u32, room: usize, form: *mut usize, place: *mut usize,
+    ) -> u32;
+    fn showrule_normal(
+        table: *const u32, words: usize, written: usize, until_like: usize, result: *mut u32, room: usize, form: *mut usize,
+        place: *mut usize,
+    ) -> u32;
 }
 
-type Step = unsafe extern "C" fn(*const u32, usize, *mut u32, usize, *mut usize, *mut usize) -> u32;
-
 // The refusal's number and place, and the number of words.
-fn normal_form(step: Step, table: &[u32], result: &mut [u32]) -> (u32, usize, usize) {
+type Reply = (u32, usize, usize);
+
+fn after(table: &[u32], result: &mut [u32]) -> Reply {
     let (mut form, mut place) = (0, 0);
-    let number = unsafe { step(table.as_ptr(), table.len(), result.as_mut_ptr(), result.len(), &mut form, &mut place) };
+    let number =
+        unsafe { showrule_normal(table.as_ptr(), table.len(), 64, 8, result.as_mut_ptr(), result.len(), &mut form, &mut place) };
+    (number, place, form)
+}
+
+#[cfg(limits)]
+fn before(table: &[u32], result: &mut [u32]) -> Reply {
+    let (mut form, mut place) = (0, 0);
+    let number = unsafe {
+        before_showrule_normal(table.as_ptr(), table.len(), 64, 8, result.as_mut_ptr(), result.len(), &mut form, &mut place)
+    };
+    (number, place, form)
+}
+
+#[cfg(not(limits))]
+fn before(table: &[u32], result: &mut [u32]) -> Reply {
+    let (mut form, mut place) = (0, 0);
+    let number =
+        unsafe { before_showrule_normal(table.as_ptr(), table.len(), result.as_mut_ptr(), result.len(), &mut form, &mut place) };
     (number, place, form)
 }
 
 fn main() {
     for (name, table) in shapes::eight_until_like() {
         let (mut result, mut result2) = (vec![0; 4097], vec![0; 4097]);
-        let reply = normal_form(showrule_normal, &table, &mut result);
-        assert_eq!(reply, normal_form(before_showrule_normal, &table, &mut result2));
+        let reply = after(&table, &mut result);
+        assert_eq!(reply, before(&table, &mut result2));
         assert!(result == result2, "the slices are the same");
         let rounds = timing::in_turn(
             400,
             &mut result,
             [
-                &mut |r| assert_eq!(normal_form(showrule_normal, black_box(&table), r), reply),
-                &mut |r| assert_eq!(normal_form(before_showrule_normal, black_box(&table), r), reply),
+                &mut |r| assert_eq!(after(black_box(&table), r), reply),
+                &mut |r| assert_eq!(before(black_box(&table), r), reply),
             ],
         );
         println!(

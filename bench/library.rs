@@ -1,10 +1,16 @@
-// The proved library, called through its C names. A refusal is its number and place.
+// The proved library, called through its C names, under the program's limits. A refusal is its number and place.
 use crate::hashmap::Refused;
+
+const WRITTEN: usize = 64;
+const UNTIL_LIKE: usize = 8;
 
 extern "C" {
     fn showrule_check(table: *const u32, words: usize, plain: bool, limit: usize, place: *mut usize) -> u32;
     fn showrule_classify(table: *const u32, words: usize, bytes: *mut u8, len: usize, place: *mut usize) -> u32;
-    fn showrule_plain(table: *const u32, words: usize, result: *mut u32, room: usize, form: *mut usize, place: *mut usize) -> u32;
+    fn showrule_plain(
+        table: *const u32, words: usize, written: usize, until_like: usize, result: *mut u32, room: usize, form: *mut usize,
+        place: *mut usize,
+    ) -> u32;
     fn showrule_judge(
         table: *const u32, words: usize, samples: *const u32, count: usize, start: usize, driven: usize, scratch: *mut u64,
         len: usize, judged: *mut u32, held: *mut u32, holds: *mut bool, moments: *mut usize, failing: *mut usize, place: *mut usize,
@@ -13,16 +19,22 @@ extern "C" {
 
 #[cfg(forms)]
 extern "C" {
-    fn showrule_normal(table: *const u32, words: usize, result: *mut u32, room: usize, form: *mut usize, place: *mut usize) -> u32;
+    fn showrule_normal(
+        table: *const u32, words: usize, written: usize, until_like: usize, result: *mut u32, room: usize, form: *mut usize,
+        place: *mut usize,
+    ) -> u32;
     fn showrule_form(
-        table: *const u32, words: usize, plain: *mut u32, plain_room: usize, result: *mut u32, room: usize,
-        form: *mut usize, place: *mut usize,
+        table: *const u32, words: usize, written: usize, until_like: usize, plain: *mut u32, plain_room: usize, result: *mut u32,
+        room: usize, form: *mut usize, place: *mut usize,
     ) -> u32;
 }
 
 #[cfg(texts)]
 extern "C" {
-    fn showrule_text(text: *const u8, bytes: usize, result: *mut u32, room: usize, table: *mut usize, place: *mut usize) -> u32;
+    fn showrule_text(
+        text: *const u8, bytes: usize, written: usize, until_like: usize, result: *mut u32, room: usize, table: *mut usize,
+        place: *mut usize,
+    ) -> u32;
 }
 
 #[cfg(dialects)]
@@ -53,14 +65,22 @@ pub fn classify(table: &[u32], bytes: &mut [u8]) -> Result<(), Refused> {
 
 pub fn plain_form(table: &[u32], result: &mut [u32]) -> Result<usize, Refused> {
     let (mut form, mut place) = (0, 0);
-    let number = unsafe { showrule_plain(table.as_ptr(), table.len(), result.as_mut_ptr(), result.len(), &mut form, &mut place) };
+    let number = unsafe {
+        showrule_plain(
+            table.as_ptr(), table.len(), WRITTEN, UNTIL_LIKE, result.as_mut_ptr(), result.len(), &mut form, &mut place,
+        )
+    };
     reply(number, place, form)
 }
 
 #[cfg(forms)]
 pub fn normal_form(table: &[u32], result: &mut [u32]) -> Result<usize, Refused> {
     let (mut form, mut place) = (0, 0);
-    let number = unsafe { showrule_normal(table.as_ptr(), table.len(), result.as_mut_ptr(), result.len(), &mut form, &mut place) };
+    let number = unsafe {
+        showrule_normal(
+            table.as_ptr(), table.len(), WRITTEN, UNTIL_LIKE, result.as_mut_ptr(), result.len(), &mut form, &mut place,
+        )
+    };
     reply(number, place, form)
 }
 
@@ -69,8 +89,8 @@ pub fn rule_form(table: &[u32], plain: &mut [u32], result: &mut [u32]) -> Result
     let (mut form, mut place) = (0, 0);
     let number = unsafe {
         showrule_form(
-            table.as_ptr(), table.len(), plain.as_mut_ptr(), plain.len(), result.as_mut_ptr(), result.len(),
-            &mut form, &mut place,
+            table.as_ptr(), table.len(), WRITTEN, UNTIL_LIKE, plain.as_mut_ptr(), plain.len(), result.as_mut_ptr(),
+            result.len(), &mut form, &mut place,
         )
     };
     reply(number, place, form)
@@ -89,7 +109,11 @@ pub fn rule_form(_: &[u32], _: &mut [u32], _: &mut [u32]) -> Result<usize, Refus
 #[cfg(texts)]
 pub fn text(text: &[u8], result: &mut [u32]) -> Result<usize, Refused> {
     let (mut table, mut place) = (0, 0);
-    let number = unsafe { showrule_text(text.as_ptr(), text.len(), result.as_mut_ptr(), result.len(), &mut table, &mut place) };
+    let number = unsafe {
+        showrule_text(
+            text.as_ptr(), text.len(), WRITTEN, UNTIL_LIKE, result.as_mut_ptr(), result.len(), &mut table, &mut place,
+        )
+    };
     reply(number, place, table)
 }
 

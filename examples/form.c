@@ -10,10 +10,10 @@
 int main(void)
 {
     const uint32_t table[] = {SHOWRULE_HEADER(0, 2), 0x30000001, 0xE0000001};
-    uint32_t plain[SHOWRULE_PLAIN_ROOM], form[4097];
+    uint32_t plain[SHOWRULE_PLAIN_ROOM(SHOWRULE_DESK_WRITTEN)], form[4097];
     size_t length, place;
-    uint32_t number = showrule_form(table, sizeof table / sizeof *table, plain, SHOWRULE_PLAIN_ROOM, form,
-                                    sizeof form / sizeof *form, &length, &place);
+    uint32_t number = showrule_form(table, sizeof table / sizeof *table, SHOWRULE_DESK_WRITTEN, SHOWRULE_DESK_UNTIL_LIKE, plain,
+                                    sizeof plain / sizeof *plain, form, sizeof form / sizeof *form, &length, &place);
 
     if (number != SHOWRULE_ACCEPTED) {
         printf("refused %" PRIu32 " at %zu\n", number, place);

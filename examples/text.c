@@ -13,12 +13,15 @@
 int main(int argc, char **argv)
 {
     const char *text = argc > 1 ? argv[1] : "G p1";
-    uint32_t table[SHOWRULE_WRITTEN_ROOM], plain[SHOWRULE_PLAIN_ROOM], form[4097];
+    const size_t written = SHOWRULE_DESK_WRITTEN, until_like = SHOWRULE_DESK_UNTIL_LIKE;
+    uint32_t table[SHOWRULE_WRITTEN_ROOM(SHOWRULE_DESK_WRITTEN)], plain[SHOWRULE_PLAIN_ROOM(SHOWRULE_DESK_WRITTEN)], form[4097];
     size_t length, place;
-    uint32_t number = showrule_text((const uint8_t *)text, strlen(text), table, SHOWRULE_WRITTEN_ROOM, &length, &place);
+    uint32_t number = showrule_text((const uint8_t *)text, strlen(text), written, until_like, table, sizeof table / sizeof *table,
+                                    &length, &place);
 
     if (number == SHOWRULE_ACCEPTED)
-        number = showrule_form(table, length, plain, SHOWRULE_PLAIN_ROOM, form, sizeof form / sizeof *form, &length, &place);
+        number = showrule_form(table, length, written, until_like, plain, sizeof plain / sizeof *plain, form,
+                               sizeof form / sizeof *form, &length, &place);
     if (number != SHOWRULE_ACCEPTED) {
         printf("refused %" PRIu32 " at %zu\n", number, place);
         return 1;

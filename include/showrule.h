@@ -4,6 +4,10 @@
  * its left field is the class byte of the last word, or 0 where a word of kind 12 to 15 occurs, and its right field the number of words
  * after it, never 0 (SHOWRULE_HEADER makes one). A length counts the header; the number of words, and so every limit, leaves it out.
  *
+ * A house sets two limits, and hands both to text, plain, normal and form: `written`, 1 to 256, is the most words of a written table, and
+ * `until_like`, 0 to 10, the most until-like words (kinds 8 to 11) of a plain one; a plain table has at most 2 written + 2 words. A limit
+ * outside its range is 25, before any other refusal. The program keeps to 64 and 8.
+ *
  * Every function takes any numbers and any words, and answers 0 when the call is accepted, or the number of the refusal, the first that
  * applies in the order of documents 01 and 02. The place is then the number of the faulty word for 3 to 11 and 21, that of a byte of the
  * text for 19, and 0 otherwise; accepted, it is 0. No function allocates, keeps a pointer, reads or writes a file, or ends the program.
@@ -44,7 +48,7 @@ enum {
     SHOWRULE_FIELD_NOT_ZERO = 8,       /* a field that must be 0 isn't */
     SHOWRULE_REPEATED = 9,             /* a word is the same as an earlier one */
     SHOWRULE_UNUSED = 10,              /* a word that is not the last is used by none */
-    SHOWRULE_TOO_MANY_UNTIL_LIKE = 11, /* over 8 until-like words (kinds 8 to 11); the place is the ninth */
+    SHOWRULE_TOO_MANY_UNTIL_LIKE = 11, /* more until-like words than the limit; the place is the first over it */
     SHOWRULE_RESULT_TOO_SHORT = 12,    /* the result, its header too, is longer than the slice that is lent for it */
     SHOWRULE_NO_SAMPLE = 13,           /* the recording has no sample */
     SHOWRULE_TOO_MANY_SAMPLES = 14,    /* it has over 4,096 */
@@ -56,26 +60,31 @@ enum {
     SHOWRULE_LETTER_NOT_DRIVEN = 21,   /* a word names a letter that the recording does not drive; the place is the lowest such word */
     SHOWRULE_TOO_MANY_DRIVEN = 22,     /* the recording says that it drives over 32 letters */
     SHOWRULE_COUNT_DIFFERS = 23,       /* the count in the header is not the number of words after it */
-    SHOWRULE_WRONG_HEADER = 24         /* the header's kind is not 0, or its class not that of the table */
+    SHOWRULE_WRONG_HEADER = 24,        /* the header's kind is not 0, or its class not that of the table */
+    SHOWRULE_LIMITS_OUTSIDE = 25       /* the limit on written words is not 1 to 256, or that on until-like words not 0 to 10 */
 };
 
 /* The most of each that a call takes; of words, beside the header. */
 enum {
     SHOWRULE_MOST_BYTES = 1024,       /* bytes of a text, for text */
     SHOWRULE_MOST_WORDS = 16383,      /* words of a table, for check, class, dialect, judge and row */
-    SHOWRULE_MOST_WRITTEN = 64,       /* words of a written table, for plain and form; text makes no longer one */
-    SHOWRULE_MOST_PLAIN = 130,        /* words of a plain table, for normal; no plain form is longer */
-    SHOWRULE_MOST_UNTIL_LIKE = 8,     /* until-like words of a plain table, for normal and form */
+    SHOWRULE_MOST_WRITTEN = 256,      /* the highest limit on the words of a written table, for text, plain and form; the lowest is 1 */
+    SHOWRULE_MOST_UNTIL_LIKE = 10,    /* the highest limit on the until-like words of a plain table, for normal and form */
     SHOWRULE_MOST_SAMPLES = 4096,     /* samples of a recording */
     SHOWRULE_MOST_DRIVEN = 32         /* letters that a recording drives */
 };
 
-/* The lengths of slices, the header included, that are always enough. */
-enum {
-    SHOWRULE_WRITTEN_ROOM = 65,       /* for the table of a text */
-    SHOWRULE_PLAIN_ROOM = 131,        /* for a plain form */
-    SHOWRULE_MOST_ROOM = 16384        /* for any table; a longer slice counts for no more */
-};
+/* The limits of the program. */
+enum { SHOWRULE_DESK_WRITTEN = 64, SHOWRULE_DESK_UNTIL_LIKE = 8 };
+
+/* The most words of a plain table, for normal, under a limit on written words. No plain form is longer. */
+#define SHOWRULE_PLAIN_WORDS(written) (2 * (size_t)(written) + 2)
+
+/* The lengths of slices, the header included, that are always enough: under a limit on written words for the table of a text and for a
+ * plain form, and for any table. A longer slice than the last counts for no more. */
+#define SHOWRULE_WRITTEN_ROOM(written) (1 + (size_t)(written))
+#define SHOWRULE_PLAIN_ROOM(written) (1 + SHOWRULE_PLAIN_WORDS(written))
+enum { SHOWRULE_MOST_ROOM = 16384 };
 
 /* The header of a table of so many words, 1 to 16,383, with this class byte. */
 #define SHOWRULE_HEADER(class_byte, words) ((uint32_t)(class_byte) << 14 | (uint32_t)(words))
@@ -95,25 +104,30 @@ uint32_t showrule_classify(const uint32_t *table, size_t length, uint8_t *bytes,
 /* The written table of a rule typed as text: true, false, p1 to p32, the prefixes ! X F G, and the two-sided & | -> U W R M, always with
  * their two operands in round brackets; spaces (byte 32) may stand round these symbols, and nothing else, so that no final line end and
  * no final 0 is part of a text. Refusals, the first of them that applies:
+ *   25  a limit is outside its range, until_like too, though no text has to do with it.
  *   20  over 1,024 bytes.
  *   19  no rule of the grammar; the place is the first byte, counted from 1, after which no continuation could help, or bytes + 1 where
  *       the text ends early.
- *   2   the table has over 64 words.
+ *   2   the table has over `written` words.
  *   12  it is longer than the result.
  * Accepted, *table_length is its length, header and words, numbered by first need with sharing, are the first of the result, and later
- * words stay; 65 words are always enough. It passes the checks of a table. Refused by 12, every word of the result is 0; refused
- * otherwise, it is as it was. Refused, *table_length is 0. */
-uint32_t showrule_text(const uint8_t *text, size_t bytes, uint32_t *result, size_t room, size_t *table_length, size_t *place);
+ * words stay; SHOWRULE_WRITTEN_ROOM(written) words are always enough. It passes the checks of a table. Refused by 12, every word of the
+ * result is 0; refused otherwise, it is as it was. Refused, *table_length is 0. */
+uint32_t showrule_text(const uint8_t *text, size_t bytes, size_t written, size_t until_like, uint32_t *result, size_t room,
+                       size_t *table_length, size_t *place);
 
-/* The plain form of a written table of at most 64 words, the checks of a table and 12. Accepted, *form_length is its length, its header and
- * words are the first of the result, and later words stay; 131 words are always enough. Refused by 12, every word of the result is 0;
- * refused otherwise, it is as it was. Refused, *form_length is 0. */
-uint32_t showrule_plain(const uint32_t *table, size_t length, uint32_t *result, size_t room, size_t *form_length, size_t *place);
+/* The plain form of a written table of at most `written` words: 25, the checks of a table, and 12. Accepted, *form_length is its length,
+ * its header and words are the first of the result, and later words stay; SHOWRULE_PLAIN_ROOM(written) words are always enough. Refused by
+ * 12, every word of the result is 0; refused otherwise, it is as it was. Refused, *form_length is 0. */
+uint32_t showrule_plain(const uint32_t *table, size_t length, size_t written, size_t until_like, uint32_t *result, size_t room,
+                        size_t *form_length, size_t *place);
 
-/* The normal form of a plain table of at most 130 words, the checks of a table, 11 and 12. Accepted, *form_length is its length, its header
- * and words are the first of the result, and later words stay. Refused by 12, every word of the result is 0; refused otherwise, it is as
- * it was. Refused, *form_length is 0. A result counts for 16,383 words and the header at most. */
-uint32_t showrule_normal(const uint32_t *table, size_t length, uint32_t *result, size_t room, size_t *form_length, size_t *place);
+/* The normal form of a plain table of at most SHOWRULE_PLAIN_WORDS(written) words, `until_like` of them until-like: 25, the checks of a
+ * table, 11 and 12. Accepted, *form_length is its length, its header and words are the first of the result, and later words stay. Refused
+ * by 12, every word of the result is 0; refused otherwise, it is as it was. Refused, *form_length is 0. A result counts for 16,383 words
+ * and the header at most. */
+uint32_t showrule_normal(const uint32_t *table, size_t length, size_t written, size_t until_like, uint32_t *result, size_t room,
+                         size_t *form_length, size_t *place);
 
 /* The table of a plain table's conversion to the dialect without W and M: a W b becomes b R (a or b), and a M b becomes b U (a and b);
  * a table that has neither is renumbered only. It takes at most 16,383 words, and makes the checks of a table, kinds 12 to 15 being 4, and
@@ -124,11 +138,12 @@ uint32_t showrule_normal(const uint32_t *table, size_t length, uint32_t *result,
 uint32_t showrule_dialect(const uint32_t *table, size_t length, uint32_t *result, size_t room, size_t *form_length, size_t *place);
 
 /* The whole way, from a written table to its normal form: showrule_plain into the slice plain, then showrule_normal on exactly the table
- * that it answered, header and words. plain is left as showrule_plain leaves it. Where the plain form is refused, the number and the place
- * are those of that refusal, and the result is as it was; else number, place, *form_length and the result are as showrule_normal leaves
- * them, and the place of 11 is the number of a word of the plain form. A 12 is of the slice in which every word is 0. */
-uint32_t showrule_form(const uint32_t *table, size_t length, uint32_t *plain, size_t plain_room, uint32_t *result, size_t room,
-                       size_t *form_length, size_t *place);
+ * that it answered, header and words, under the same limits. plain is left as showrule_plain leaves it. Where the plain form is refused,
+ * the number and the place are those of that refusal, and the result is as it was; else number, place, *form_length and the result are as
+ * showrule_normal leaves them, and the place of 11 is the number of a word of the plain form. A 12 is of the slice in which every word
+ * is 0. */
+uint32_t showrule_form(const uint32_t *table, size_t length, size_t written, size_t until_like, uint32_t *plain, size_t plain_room,
+                       uint32_t *result, size_t room, size_t *form_length, size_t *place);
 
 /* Judges a rule, a table of at most 16,383 words, written or plain, over a recording of `count` samples: after the last comes the one at
  * the loop start again, for ever. The recording drives the letters 1 to `driven`, 0 to 32 of them: a rule that names a higher one is

@@ -3,7 +3,7 @@
 ghost use mathlib.Core.Path.{_≡_};
 ghost use lib.ListN.{length};
 ghost use Rattle.refusals.specs.Refusals.{outcomeNumber, outcomePlace};
-ghost use Rattle.table.specs.Limits.{desk};
+ghost use Rattle.table.specs.Limits.{house};
 ghost use Rattle.table.specs.Header.{body, headedChecked};
 ghost use Rattle.table.specs.Frame.{classStep, plainStep, normalStep, dialectStep, outcomeOf, answerOf, resultOf};
 ghost use Rattle.text.specs.Text.{textStep};
@@ -13,6 +13,7 @@ ghost use Rattle.judging.specs.Judging.{reply as judgeReply};
 ghost use Rattle.replies.specs.Replies.{FormReply, JudgeReply, RowReply};
 use replies::form_reply;
 use replies::reply;
+use table::limits::Limits;
 
 #[no_mangle]
 pub extern "C" fn showrule_check(table: &[u32], plain: bool, limit: usize, place: &mut usize) -> u32
@@ -36,66 +37,82 @@ pub extern "C" fn showrule_classify(table: &[u32], bytes: &mut [u8], place: &mut
 #[no_mangle]
 pub extern "C" fn showrule_text(
     text: &[u8],
+    written: usize,
+    fixpoints: usize,
     result: &mut [u32],
     words: &mut usize,
     place: &mut usize,
 ) -> u32
     ensures { λ r. ⌜ FormReply
-        (answerOf (textStep desk) (now (text .entry)) (length (now (result .entry))))
+        (answerOf (textStep (house written fixpoints)) (now (text .entry)) (length (now (result .entry))))
         r (now (words .exit)) (now (place .exit)) ⌝ }
-    ensures { λ r. ⌜ now (result .exit) ≡ resultOf (textStep desk) (now (text .entry)) (now (result .entry)) ⌝ }
+    ensures { λ r. ⌜ now (result .exit) ≡ resultOf (textStep (house written fixpoints)) (now (text .entry)) (now (result .entry)) ⌝ }
 {
-    form_reply(text::read(text, result), words, place)
+    let limits = Limits { written, fixpoints };
+    form_reply(text::read(limits, text, result), words, place)
 }
 
 // The plain form of a written table, at the front of the result.
 #[no_mangle]
 pub extern "C" fn showrule_plain(
     table: &[u32],
+    written: usize,
+    fixpoints: usize,
     result: &mut [u32],
     words: &mut usize,
     place: &mut usize,
 ) -> u32
     ensures { λ r. ⌜ FormReply
-        (answerOf (plainStep desk) (now (table .entry)) (length (now (result .entry))))
+        (answerOf (plainStep (house written fixpoints)) (now (table .entry)) (length (now (result .entry))))
         r (now (words .exit)) (now (place .exit)) ⌝ }
-    ensures { λ r. ⌜ now (result .exit) ≡ resultOf (plainStep desk) (now (table .entry)) (now (result .entry)) ⌝ }
+    ensures { λ r. ⌜ now (result .exit) ≡ resultOf (plainStep (house written fixpoints)) (now (table .entry)) (now (result .entry)) ⌝ }
 {
-    form_reply(nnf::plain_form(table, result), words, place)
+    let limits = Limits { written, fixpoints };
+    form_reply(nnf::plain_form(limits, table, result), words, place)
 }
 
 // The normal form of a plain table, at the front of the result.
 #[no_mangle]
 pub extern "C" fn showrule_normal(
     table: &[u32],
+    written: usize,
+    fixpoints: usize,
     result: &mut [u32],
     words: &mut usize,
     place: &mut usize,
 ) -> u32
     ensures { λ r. ⌜ FormReply
-        (answerOf (normalStep desk) (now (table .entry)) (length (now (result .entry))))
+        (answerOf (normalStep (house written fixpoints)) (now (table .entry)) (length (now (result .entry))))
         r (now (words .exit)) (now (place .exit)) ⌝ }
-    ensures { λ r. ⌜ now (result .exit) ≡ resultOf (normalStep desk) (now (table .entry)) (now (result .entry)) ⌝ }
+    ensures { λ r. ⌜ now (result .exit) ≡ resultOf (normalStep (house written fixpoints)) (now (table .entry)) (now (result .entry)) ⌝ }
 {
-    form_reply(normal_form::normalise(table, result), words, place)
+    let limits = Limits { written, fixpoints };
+    form_reply(normal_form::normalise(limits, table, result), words, place)
 }
 
 // The whole way: the plain form of a written table in one slice, and its normal form in the other.
 #[no_mangle]
 pub extern "C" fn showrule_form(
     table: &[u32],
+    written: usize,
+    fixpoints: usize,
     plain: &mut [u32],
     result: &mut [u32],
     words: &mut usize,
     place: &mut usize,
 ) -> u32
     ensures { λ r. ⌜ FormReply
-        (wholeAnswer desk (now (table .entry)) (length (now (plain .entry))) (length (now (result .entry))))
+        (wholeAnswer (house written fixpoints) (now (table .entry)) (length (now (plain .entry))) (length (now (result .entry))))
         r (now (words .exit)) (now (place .exit)) ⌝ }
-    ensures { λ r. ⌜ now (plain .exit) ≡ resultOf (plainStep desk) (now (table .entry)) (now (plain .entry)) ⌝ }
-    ensures { λ r. ⌜ now (result .exit) ≡ wholeResult desk (now (table .entry)) (length (now (plain .entry))) (now (result .entry)) ⌝ }
+    ensures { λ r. ⌜ now (plain .exit) ≡ resultOf (plainStep (house written fixpoints)) (now (table .entry)) (now (plain .entry)) ⌝ }
+    ensures { λ r. ⌜ now (result .exit) ≡ wholeResult (house written fixpoints) (now (table .entry)) (length (now (plain .entry))) (now (result .entry)) ⌝ }
 {
-    form_reply(pipeline::normal_form(table, plain, result), words, place)
+    let limits = Limits { written, fixpoints };
+    form_reply(
+        pipeline::normal_form(limits, table, plain, result),
+        words,
+        place,
+    )
 }
 
 // The table of a plain table's conversion to the dialect without W and M, at the front of the result.

@@ -28,15 +28,17 @@ pub fn classify(c: Case, table: &[u32]) {
 // The listed words are the bytes of the text.
 pub fn text(c: Case, listed: &[u32]) {
     let mut bytes = [0u8; 16400];
-    let mut result = [0xEEEEEEEEu32; 140];
+    let mut result = [0xEEEEEEEEu32; 520];
     let mut words: usize = 9;
     let mut place: usize = 9;
     let n = listed.len();
     let room = c.room;
     input::bytes(listed, &mut bytes);
-    if n <= 16400 && room <= 140 {
+    if n <= 16400 && room <= 520 {
         let number = boundary::showrule_text(
             &bytes[0..n],
+            c.written,
+            c.fixpoints,
             &mut result[0..room],
             &mut words,
             &mut place,
@@ -48,12 +50,19 @@ pub fn text(c: Case, listed: &[u32]) {
 }
 
 pub fn plain(c: Case, table: &[u32]) {
-    let mut result = [0xEEEEEEEEu32; 140];
+    let mut result = [0xEEEEEEEEu32; 520];
     let mut words: usize = 9;
     let mut place: usize = 9;
     let room = c.room;
-    if room <= 140 {
-        let number = boundary::showrule_plain(table, &mut result[0..room], &mut words, &mut place);
+    if room <= 520 {
+        let number = boundary::showrule_plain(
+            table,
+            c.written,
+            c.fixpoints,
+            &mut result[0..room],
+            &mut words,
+            &mut place,
+        );
         show::answer(number, place);
     }
     show::number(words);
@@ -66,7 +75,14 @@ pub fn normal(c: Case, table: &[u32]) {
     let mut place: usize = 9;
     let room = c.room;
     if room <= 16400 {
-        let number = boundary::showrule_normal(table, &mut result[0..room], &mut words, &mut place);
+        let number = boundary::showrule_normal(
+            table,
+            c.written,
+            c.fixpoints,
+            &mut result[0..room],
+            &mut words,
+            &mut place,
+        );
         show::answer(number, place);
     }
     show::number(words);
@@ -74,15 +90,17 @@ pub fn normal(c: Case, table: &[u32]) {
 }
 
 pub fn form(c: Case, table: &[u32]) {
-    let mut plain = [0xEEEEEEEEu32; 140];
+    let mut plain = [0xEEEEEEEEu32; 520];
     let mut result = [0xEEEEEEEEu32; 16400];
     let mut words: usize = 9;
     let mut place: usize = 9;
     let room = c.room;
     let second = c.second;
-    if room <= 140 && second <= 16400 {
+    if room <= 520 && second <= 16400 {
         let number = boundary::showrule_form(
             table,
+            c.written,
+            c.fixpoints,
             &mut plain[0..room],
             &mut result[0..second],
             &mut words,

@@ -1,16 +1,19 @@
 // The runner's input: words, and the tables and recordings that a case is about.
 
-// A case in words, in this order: the step (1 check, 2 class, 3 plain form, 4 normal form, 5 whole way, 6 judge, 7 row call, 8 text,
+// A case in 17 words, in this order: the step (1 check, 2 class, 3 plain form, 4 normal form, 5 whole way, 6 judge, 7 row call, 8 text,
 // 9 dialect); how many words of a chain the table has after its header, and how many are listed, the header and those after the chain; the
-// number of a word that is replaced, the header being the first (0: none), and the word; the rooms of the lent slices; whether plain tables only, and the limit, of the check; the number of samples,
-// the loop start, the driven count, the tally, and the seed of the samples (0: they are listed). The listed words follow, of a text a
-// byte a word, then the listed samples.
+// number of a word that is replaced, the header being the first (0: none), and the word; the limits of the house, on written words and on
+// fixpoints; the rooms of the lent slices; whether plain tables only, and the limit, of the check; the number of samples, the loop start,
+// the driven count, the tally, and the seed of the samples (0: they are listed). The listed words follow, of a text a byte a word, then the
+// listed samples.
 pub struct Case {
     pub step: u32,
     pub chain: usize,
     pub listed: usize,
     pub replaced: usize,
     pub word: u32,
+    pub written: usize,
+    pub fixpoints: usize,
     pub room: usize,
     pub second: usize,
     pub plain: bool,
@@ -23,23 +26,25 @@ pub struct Case {
     pub seed: u64,
 }
 
-pub fn case_of(w: [u32; 15]) -> Case {
+pub fn case_of(w: [u32; 17]) -> Case {
     Case {
         step: w[0],
         chain: w[1] as usize,
         listed: w[2] as usize,
         replaced: w[3] as usize,
         word: w[4],
-        room: w[5] as usize,
-        second: w[6] as usize,
-        plain: w[7] == 1,
-        limit: w[8] as usize,
-        samples: w[9] as usize,
-        start: w[10] as usize,
-        driven: w[11] as usize,
-        judged: w[12],
-        held: w[13],
-        seed: w[14] as u64,
+        written: w[5] as usize,
+        fixpoints: w[6] as usize,
+        room: w[7] as usize,
+        second: w[8] as usize,
+        plain: w[9] == 1,
+        limit: w[10] as usize,
+        samples: w[11] as usize,
+        start: w[12] as usize,
+        driven: w[13] as usize,
+        judged: w[14],
+        held: w[15],
+        seed: w[16] as u64,
     }
 }
 

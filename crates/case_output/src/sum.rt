@@ -44,7 +44,7 @@ pub fn bytes(s: &[u8; 16400]) {
     crate::show::sum(of_bytes(all));
 }
 
-pub fn plain(s: &[u32; 140]) {
+pub fn plain(s: &[u32; 520]) {
     let all: &[u32] = s;
     crate::show::sum(of_words(all));
 }

@@ -72,7 +72,7 @@ fn tabled(c: Case) -> bool {
 
 // The next case; whether there was one.
 pub fn one() -> bool {
-    let mut head = [0u32; 15];
+    let mut head = [0u32; 17];
     let there = input::words(&mut head);
     there && tabled(input::case_of(head))
 }

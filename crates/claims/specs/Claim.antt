@@ -1,4 +1,5 @@
--- Demand 3 as one claim, over the written table with its header, both slices before and after the call, and the answer.
+-- Demand 3 as one claim, over the limits of a house, whatever they are, the written table with its header, both slices before and after the call, and
+-- the answer.
 use Prim.Native.Nat.{ℕ, _+_, _*_, _^_, _≤_}
 use mathlib.Core.Path.{_≡_}
 use mathlib.Core.Logic.{_↔_, _⊎_}
@@ -17,8 +18,8 @@ use Rattle.table.specs.declared.answer.Answer.the-variants.{Made, Refused}
 use Rattle.table.specs.declared.limits.Limits.{Limits}
 use Rattle.refusals.specs.Refusals.{first, numberOf}
 use Rattle.table.specs.Header.{headed, body, headedChecks, headedChecked}
-use Rattle.table.specs.Limits.{mostWords}
-use Rattle.table.specs.StepChecks.{fixpointChecks, resultFits, letterChecks}
+use Rattle.table.specs.Limits.{isPermitted, mostWords}
+use Rattle.table.specs.StepChecks.{limitChecks, fixpointChecks, resultFits, letterChecks}
 use Rattle.table.specs.Table.{rule}
 use Rattle.table.specs.Steps.{plainTable, fixpoints, normalTable}
 use Rattle.table.specs.Frame.{plainStep, resultOf, answerNumber}
@@ -60,8 +61,9 @@ pub record Claim (l : Limits) (t plain plain′ form form′ : List ℕ) (a : An
   pub form-slice : form′ ≡ wholeResult l t (length plain) form
   -- of an answered form
   pub kept : (n : ℕ) → a ≡ Made n → Kept t form′ n
-  -- 12 exactly when the checks of the written table pass and a form does not fit its slice
-  pub refused-for-length : (answerNumber a ≡ 12) ↔ ((headedChecked false (l .written) t ≡ outcome.Accepted) × TooLong l t (length plain) (length form))
-  -- every other refusal is that of the check table: 1, 2, 23, 3 to 10 and 24 of the written table, then 11 of its plain form
+  -- 12 exactly when the limits are permitted, the checks of the written table pass, and a form does not fit its slice
+  pub refused-for-length : (answerNumber a ≡ 12)
+      ↔ ((isPermitted l ≡ true) × (headedChecked false (l .written) t ≡ outcome.Accepted) × TooLong l t (length plain) (length form))
+  -- every other refusal is that of the check table: 25 of the limits, 1, 2, 23, 3 to 10 and 24 of the written table, then 11 of its plain form
   pub refused-by-checks : (r : Refusal) → a ≡ Refused r → (numberOf r ≡ 12 → ⊥)
-      → first (headedChecks false (l .written) t ++ fixpointChecks (l .fixpoints) 1 (plainTable (body t))) ≡ outcome.Refused r
+      → first (limitChecks l ++ (headedChecks false (l .written) t ++ fixpointChecks (l .fixpoints) 1 (plainTable (body t)))) ≡ outcome.Refused r

@@ -4,7 +4,8 @@ ghost use Rattle.placing.specs.State.{state};
 ghost use Rattle.dialect_draft.specs.Filling.{Room};
 ghost use Rattle.placing.specs.Written.{Written};
 ghost use Rattle.table.specs.Steps.{dialectTable};
-ghost use Rattle.dialect_rooms.specs.Rooms.{Asked, Fresh};
+ghost use Rattle.draft.specs.Numberable.{Fresh};
+ghost use Rattle.dialect_rooms.specs.Rooms.{Asked};
 
 // With no slot numbered yet, and an index of no words.
 fn write_in(

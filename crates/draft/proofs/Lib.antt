@@ -6,3 +6,4 @@ pub mod Zeros
 pub mod Remembering
 pub mod Going
 pub mod Growth
+pub mod Fresh

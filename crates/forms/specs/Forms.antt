@@ -5,8 +5,7 @@ use mathlib.Core.Bool.{true}
 use mathlib.Core.List.{List}
 use lib.ListN.{length}
 use Rattle.refusals.specs.declared.Outcome.the-variants as outcome
-use Rattle.table.specs.declared.limits.Limits.{Limits}
-use Rattle.table.specs.Limits.{desk, plainLimit}
+use Rattle.table.specs.Limits.{most, plainLimit}
 use Rattle.table.specs.Checks.{checked}
 use Rattle.table.specs.Numbering.{room}
 use Rattle.table.specs.Steps.{fixpoints}
@@ -17,21 +16,18 @@ use Rattle.filling.specs.Filled.{slotsFor, draftSize}
 abbrev pub mostWords : ℕ → ℕ → ℕ
 mostWords n k = 2 ^ k * (5 * n + 3 * k + 1) + 2
 
--- the sizes of the local arrays: a position for each word of a plain table, and the slots of a short draft and of any
+-- the sizes of the local arrays: a position for each word of a plain table, and the slots of a short draft, of a middling one and of any
 abbrev pub positionsLength : ℕ
-positionsLength = plainLimit desk + 1
+positionsLength = plainLimit most + 1
 
 abbrev pub shortSlots : ℕ
 shortSlots = 256
 
-abbrev pub mostSlots : ℕ
-mostSlots = 1024
+abbrev pub middleSlots : ℕ
+middleSlots = 1024
 
--- limits under which they are long enough
-pub record Limited (l : Limits) : Type 0 where
-  pub positioned : plainLimit l < positionsLength
-  pub few : l .fixpoints < 32
-  pub drafted : slotsFor (plainLimit l) (l .fixpoints) ≤ mostSlots
+abbrev pub mostSlots : ℕ
+mostSlots = slotsFor (plainLimit most) (most .fixpoints)
 
 -- an accepted plain table whose form can be made
 pub record Accepted (t : List ℕ) : Type 0 where

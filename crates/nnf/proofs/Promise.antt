@@ -20,9 +20,12 @@ use Rattle.table.specs.Checks.{isOperand, checked}
 use Rattle.table.specs.Steps.{plainTable}
 use Rattle.table.specs.declared.answer.Answer.the-variants.{Made}
 use Rattle.table.specs.declared.limits.Limits.{Limits}
-use Rattle.table.specs.Header.{headed, body, headedChecked}
+use Rattle.refusals.specs.Refusals.{first}
+use Rattle.table.specs.Limits.{isPermitted}
+use Rattle.table.specs.Header.{headed, body, headedChecks, headedChecked}
 use Rattle.table.specs.StepChecks.{resultFits}
 use Rattle.table.specs.Frame.{plainStep, answerOf, resultOf}
+use Rattle.table.proofs.Stated.{permitted, permitted-checks}
 use Rattle.table.proofs.Frame.{made-answer, made-result}
 use Rattle.table.proofs.Accepted.{WellFormedWord, accepted-well-formed, accepted-formula}
 use Rattle.table.proofs.Header.{accepted-headed}
@@ -181,17 +184,20 @@ module _ (limit : ℕ) (t : List ℕ) (ok : checked false limit t ≡ Accepted) 
     plain-letters Q l = subst (Letters Q) (sym plain-rule) (letters-plain Q true (rule t) l)
 
 -- a slice of two words for each written one and two more, and the header, is long enough, so the step answers the form and puts it at the front
-module _ (l : Limits) (small : l .written ≤ 8190) (t : List ℕ) (ok : headedChecked false (l .written) t ≡ Accepted) (result : List ℕ)
+module _ (l : Limits) (p : isPermitted l ≡ true) (t : List ℕ) (ok : headedChecked false (l .written) t ≡ Accepted) (result : List ℕ)
     (long : 2 * length (body t) + 3 ≤ length result) where
   long-enough : resultFits (length (headed (plainTable (body t)))) (length result) ≡ true
   long-enough =
       let words = accepted-headed false (l .written) t ok .words in
-      le-leb (suc (length (plainTable (body t)))) (min (length result) 16384) (omega (arith, plain-length (l .written) (body t) words, plain-short (l .written) (body t) words, long))
+      le-leb (suc (length (plainTable (body t)))) (min (length result) 16384)
+      (omega (arith, plain-length (l .written) (body t) words, plain-short (l .written) (body t) words, permitted l p .written, long))
+
+  passes : first (plainStep l .checks t) ≡ Accepted
+  unfolding headedChecked
+  passes = permitted-checks l (headedChecks false (l .written) t) p ∙ ok
 
   pub plain-answered : answerOf (plainStep l) t (length result) ≡ Made (length (headed (plainTable (body t))))
-  unfolding headedChecked
-  plain-answered = made-answer (plainStep l) t result ok long-enough
+  plain-answered = made-answer (plainStep l) t result passes long-enough
 
   pub plain-written : resultOf (plainStep l) t result ≡ headed (plainTable (body t)) ++ drop (length (headed (plainTable (body t)))) result
-  unfolding headedChecked
-  plain-written = made-result (plainStep l) t result ok long-enough
+  plain-written = made-result (plainStep l) t result passes long-enough

@@ -1,20 +1,19 @@
 -- How the normal-form step ends: a refused table, an until-like word past the limit, and a form, which fits the result or does not.
 use Prim.Native.Nat.{ℕ, _+_, _*_, _-_, _≤_, _<_, min}
 use native.Mathlib.Omega.{arith}
-use mathlib.Core.Path.{_≡_, sym, ap, _∙_}
+use mathlib.Core.Path.{_≡_, _∙_}
 use mathlib.Core.Bool.{true, false}
-use mathlib.Core.List.{List}
+use mathlib.Core.List.{List, _++_}
 use lib.ListN.{length, take, length-drop}
 use borrow.Rule.Slice.PartMut.{putMid}
 use Rattle.refusals.specs.declared.Refusal.{Refusal}
-use Rattle.refusals.specs.declared.Refusal.the-variants.{TooManyFixpoints}
-use Rattle.refusals.specs.declared.Outcome.{Outcome}
+use Rattle.refusals.specs.declared.Refusal.the-variants.{TooManyFixpoints, LimitsOutside}
 use Rattle.refusals.specs.declared.Outcome.the-variants as outcome
 use Rattle.table.specs.declared.answer.Answer.{Answer}
 use Rattle.table.specs.declared.answer.Answer.the-variants.{Refused}
 use Rattle.table.specs.declared.limits.Limits.{Limits}
-use Rattle.refusals.specs.Refusals.{first}
-use Rattle.table.specs.Limits.{desk, plainLimit}
+use Rattle.refusals.specs.Refusals.{Check, first}
+use Rattle.table.specs.Limits.{isPermitted, plainLimit}
 use Rattle.table.specs.Header.{headed, body, headedChecks, headedChecked}
 use Rattle.table.specs.StepChecks.{fixpointChecks}
 use Rattle.table.specs.Steps.{normalTable}
@@ -23,6 +22,7 @@ use Rattle.refusals.proofs.First.{first-append-accepted, first-append-refused}
 use Rattle.table.proofs.Accepted.{accepted-well-formed}
 use Rattle.table.proofs.Header.{accepted-headed}
 use Rattle.table.proofs.Frame.{normal-early}
+use Rattle.table.proofs.Stated.{permitted, permitted-checks, outside-checks}
 use Rattle.placing.specs.Written.{Written, Ends}
 use Rattle.placing.proofs.Placing.{true-fits}
 use Rattle.placing.proofs.Written.{ends-refused}
@@ -31,39 +31,49 @@ use Rattle.heading.proofs.Ends.{given-ends}
 use Rattle.heading.proofs.Lent.{lent-finishable, lent-given}
 use Rattle.normal_laws.proofs.Promise.{normal-accepted}
 use Rattle.fixpoints.specs.Positions.{Past}
-use Rattle.forms.specs.Forms.{Limited, Accepted}
+use Rattle.forms.specs.Forms.{Accepted}
 use Rattle.fixpoints.proofs.Positions.{fixpoints-few}
 
--- the checks with the limits that the code asks for
-pub table-at-desk : {x : Limits} {o p : Outcome} (t : List ℕ) → x ≡ desk → o ≡ headedChecked true (2 * x .written + 2) t → o ≡ p → headedChecked true (plainLimit desk) t ≡ p
-table-at-desk t e f g = sym (ap (λ (x : Limits). headedChecked true (2 * x .written + 2) t) e) ∙ sym f ∙ g
-
-pub past-at-desk : {x : Limits} {t : List ℕ} {r : ℕ} → x ≡ desk → Past t (x .fixpoints) r → Past t (desk .fixpoints) r
-past-at-desk e p = rw e at p
-
 module _ (l : Limits) (t result : List ℕ) where
-  pub table-refused : (r : Refusal) → headedChecked true (plainLimit l) t ≡ outcome.Refused r → Ends (normalStep l) t result (Refused r) result
-  unfolding headedChecked
-  table-refused r e = ends-refused (normalStep l) t result (normal-early l) r (first-append-refused (headedChecks true (plainLimit l) t) (fixpointChecks (l .fixpoints) 1 (body t)) r e)
+  -- the checks of a table by permitted limits, and those after them
+  abbrev rest : List Check
+  rest = headedChecks true (plainLimit l) t ++ fixpointChecks (l .fixpoints) 1 (body t)
 
-  module _ (a : headedChecked true (plainLimit l) t ≡ outcome.Accepted) {n : ℕ} (p : Past (body t) (l .fixpoints) n) where
-    both : first (normalStep l .checks t) ≡ first (fixpointChecks (l .fixpoints) 1 (body t))
+  pub outside : isPermitted l ≡ false → Ends (normalStep l) t result (Refused LimitsOutside) result
+  outside h = ends-refused (normalStep l) t result (normal-early l) LimitsOutside (outside-checks l rest h)
+
+  module _ (p : isPermitted l ≡ true) where
+    pub table-refused : (r : Refusal) → headedChecked true (plainLimit l) t ≡ outcome.Refused r → Ends (normalStep l) t result (Refused r) result
     unfolding headedChecked
-    both = first-append-accepted (headedChecks true (plainLimit l) t) (fixpointChecks (l .fixpoints) 1 (body t)) a
+    table-refused r e =
+        ends-refused (normalStep l) t result (normal-early l) r
+        (permitted-checks l rest p ∙ first-append-refused (headedChecks true (plainLimit l) t) (fixpointChecks (l .fixpoints) 1 (body t)) r e)
 
-    pub past-refused : 0 < n → Ends (normalStep l) t result (Refused (TooManyFixpoints n)) result
-    past-refused h = ends-refused (normalStep l) t result (normal-early l) (TooManyFixpoints n) (both ∙ p .many h)
+    module _ (a : headedChecked true (plainLimit l) t ≡ outcome.Accepted) {n : ℕ} (q : Past (body t) (l .fixpoints) n) where
+      both : first (normalStep l .checks t) ≡ first (fixpointChecks (l .fixpoints) 1 (body t))
+      unfolding headedChecked
+      both = permitted-checks l rest p ∙ first-append-accepted (headedChecks true (plainLimit l) t) (fixpointChecks (l .fixpoints) 1 (body t)) a
 
-    module _ (z : n ≤ 0) where
-      pub all-passed : Limited l → Accepted (body t)
-      all-passed h =
-          let words = accepted-headed true (plainLimit l) t a .words in
-          let f = accepted-well-formed true (plainLimit l) (body t) words in
-          let few = fixpoints-few (l .fixpoints) f (p .few (omega arith)) in
-          record { limit = plainLimit l; accepted = words; short = h .positioned; few = omega (arith, few, h .few); drafted = omega (arith, few, f .few, h .drafted) }
+      pub past-refused : 0 < n → Ends (normalStep l) t result (Refused (TooManyFixpoints n)) result
+      past-refused h = ends-refused (normalStep l) t result (normal-early l) (TooManyFixpoints n) (both ∙ q .many h)
 
-      pub given : {e : List ℕ} {r : Answer} → Given (headed (normalTable (body t))) result e r → Ends (normalStep l) t result r e
-      given g = given-ends (normalStep l) t result (both ∙ p .few (omega arith)) g
+      module _ (z : n ≤ 0) where
+        pub all-passed : Accepted (body t)
+        all-passed =
+            let h = permitted l p in
+            let words = accepted-headed true (plainLimit l) t a .words in
+            let f = accepted-well-formed true (plainLimit l) (body t) words in
+            let few = fixpoints-few (l .fixpoints) f (q .few (omega arith)) in
+            record {
+              limit = plainLimit l;
+              accepted = words;
+              short = omega (arith, h .written);
+              few = omega (arith, few, h .fixpoints);
+              drafted = omega (arith, few, f .few, h .written, h .fixpoints);
+            }
+
+        pub given : {e : List ℕ} {r : Answer} → Given (headed (normalTable (body t))) result e r → Ends (normalStep l) t result r e
+        given g = given-ends (normalStep l) t result (both ∙ q .few (omega arith)) g
 
 -- the words of a form, written after the place of their header
 module _ {words : List ℕ} (q : Accepted words) (result : List ℕ) {part : List ℕ} {n : ℕ} (some : length result ≡ 0 → ⊥)

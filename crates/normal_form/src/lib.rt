@@ -5,18 +5,19 @@ use table::answer::Answer;
 use table::limits::Limits;
 ghost use mathlib.Core.Path.{_≡_};
 ghost use lib.ListN.{length};
-ghost use Rattle.table.specs.Limits.{desk};
 ghost use Rattle.table.specs.Header.{headed};
 ghost use Rattle.table.specs.Steps.{normalTable};
 ghost use Rattle.heading.specs.Finished.{Given};
 ghost use Rattle.forms.specs.Forms.{Accepted};
 ghost use Rattle.table.specs.Frame.{normalStep, answerOf, resultOf};
 
-pub fn normalise(table: &[u32], result: &mut [u32]) -> Answer
-    ensures { λ r. ⌜ r ≡ answerOf (normalStep desk) (now (table .entry)) (length (now (result .entry))) ⌝ }
-    ensures { λ r. ⌜ now (result .exit) ≡ resultOf (normalStep desk) (now (table .entry)) (now (result .entry)) ⌝ }
+pub fn normalise(limits: Limits, table: &[u32], result: &mut [u32]) -> Answer
+    ensures { λ r. ⌜ r ≡ answerOf (normalStep limits) (now (table .entry)) (length (now (result .entry))) ⌝ }
+    ensures { λ r. ⌜ now (result .exit) ≡ resultOf (normalStep limits) (now (table .entry)) (now (result .entry)) ⌝ }
 {
-    let limits = Limits::desk();
+    if !limits::permitted(limits) {
+        return Answer::Refused(Refusal::LimitsOutside);
+    }
     match heading::check(table, true, 2 * limits.written + 2) {
         Outcome::Refused(r) => Answer::Refused(r),
         Outcome::Accepted => {

@@ -1,40 +1,29 @@
--- What drafting and numbering a plain form are asked with, in slots that are all 0.
-use Prim.Native.Nat.{ℕ, _+_, _*_}
+-- What a plain form is drafted and numbered with in a room of a size, where nothing is drafted or numbered yet.
+use Prim.Native.Nat.{ℕ, _+_, _*_, _/_, _≤_, _<_}
 use native.Mathlib.Omega.{arith}
-use mathlib.Core.Path.{_≡_}
-use mathlib.Core.Bool.{true, false}
 use mathlib.Core.List.{List}
 use lib.ListN.{length, replicate, length-replicate}
-use Rattle.logic.specs.NegationNormalForm.{plain}
 use Rattle.logic.proofs.Numbers.{getD-zeros}
-use Rattle.table.specs.Table.{rule}
-use Rattle.table.proofs.Accepted.{accepted-well-formed}
-use Rattle.placing.specs.State.{state, Numbered}
-use Rattle.placing.proofs.Putting.{numbered-none}
-use Rattle.draft.specs.Drafted.{Drafted}
-use Rattle.draft.specs.Numberable.{Numberable}
-use Rattle.draft.proofs.Remembering.{remembered-none}
-use Rattle.plain_rooms.specs.Rooms.{slots, Writable, Empty}
+use Rattle.table.specs.Numbering.{room}
+use Rattle.placing.specs.State.{state}
+use Rattle.draft.specs.Numberable.{Fresh}
+use Rattle.draft.proofs.Fresh.{fresh}
+use Rattle.plain_rooms.specs.Rooms.{Empty, Asked}
 
-pub nothing-drafted : {t out : List ℕ} → Writable t out → Empty t (replicate slots 0)
-nothing-drafted {t} q = record {
-  limit = q .limit;
-  accepted = q .accepted;
-  slots = omega (arith, length-replicate {A = ℕ} slots 0, q .room, accepted-well-formed false (q .limit) t (q .accepted) .few);
-  few = omega (arith, length-replicate {A = ℕ} slots 0);
-  empty = getD-zeros slots;
-}
+-- a room of n slots for the forms of a table, and an index of m numbers
+module _ (most n m : ℕ) {t out : List ℕ} (q : Asked most t out) (slots : 2 * most + 2 ≤ n) where
+  pub nothing-drafted : n ≤ 65536 → Empty t (replicate n 0)
+  nothing-drafted h = record {
+    limit = q .limit;
+    accepted = q .accepted;
+    slots = omega (arith, length-replicate {A = ℕ} n 0, q .few);
+    few = omega (arith, length-replicate {A = ℕ} n 0);
+    empty = getD-zeros n;
+  }
 
-pub nothing-numbered : {t out : List ℕ} → Writable t out → Numbered (state out (replicate (2 * slots + 2) 0))
-nothing-numbered {t} {out} q = numbered-none out (2 * slots + 2) (omega (arith, q .few)) (omega arith)
+  pub nothing-numbered : room (2 * most + 2) < m / 2 → m ≤ 32768 → Fresh (replicate n 0) (replicate n 0) (replicate n 0) (state out (replicate m 0))
+  nothing-numbered h k = fresh n m out (omega (arith, q .few, q .lent)) k
 
-pub numberable : {d built : List ℕ} {root : ℕ} (t : List ℕ) → length d ≡ slots → Drafted d (plain true (rule t)) root
-    → Numberable d root (replicate slots 0) (replicate slots 0) built
-numberable {d} {built} t e drafted = record {
-  formula = plain true (rule t);
-  drafted = drafted;
-  few = omega arith;
-  numbers-long = omega (arith, length-replicate {A = ℕ} slots 0);
-  stack-long = omega (arith, length-replicate {A = ℕ} slots 0);
-  remembered = remembered-none d slots built;
-}
+-- a table of fewer words asks for a smaller room
+pub asked-fewer : {most fewer : ℕ} {t out : List ℕ} → Asked most t out → length t ≤ fewer → Asked fewer t out
+asked-fewer q h = record { limit = q .limit; accepted = q .accepted; few = h; lent = q .lent }

@@ -1,4 +1,4 @@
--- What a plain form's table is written with.
+-- What a plain form is drafted and numbered with.
 use Prim.Native.Nat.{ℕ, _+_, _*_, _≤_}
 use mathlib.Core.Path.{_≡_}
 use mathlib.Core.Bool.{false}
@@ -7,16 +7,12 @@ use lib.ListN.{length, getD}
 use Rattle.refusals.specs.declared.Outcome.the-variants.{Accepted}
 use Rattle.table.specs.Checks.{checked}
 
--- how many slots a draft has here: two for each of 64 written words, and the constants
-abbrev pub slots : ℕ
-slots = 130
-
--- an accepted table whose forms have slots, and a slice of no more words than those
-pub record Writable (t out : List ℕ) : Type 0 where
+-- an accepted table of at most so many words, and a slice of no more words than its forms have slots
+pub record Asked (most : ℕ) (t out : List ℕ) : Type 0 where
   pub limit : ℕ
   pub accepted : checked false limit t ≡ Accepted
-  pub room : 2 * limit + 2 ≤ slots
-  pub few : length out ≤ slots
+  pub few : length t ≤ most
+  pub lent : length out ≤ 2 * length t + 2
 
 -- an accepted table, and a draft for its forms with nothing in it
 pub record Empty (t d : List ℕ) : Type 0 where

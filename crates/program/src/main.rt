@@ -13,7 +13,7 @@ use table::answer::Answer;
 fn answer(table: &[u32], as_text: bool) {
     let mut plain = [0u32; 131];
     let mut form = [0u32; 4097];
-    match pipeline::normal_form(table, &mut plain, &mut form) {
+    match pipeline::normal_form(limits::desk(), table, &mut plain, &mut form) {
         Answer::Made(n) => form_printing::form(&form, n, as_text),
         Answer::Refused(r) => refused(r),
     }
@@ -46,7 +46,7 @@ fn table(as_text: bool) {
 
 fn answer_text(bytes: &[u8], as_text: bool) {
     let mut words = [0u32; 65];
-    match text::read(bytes, &mut words) {
+    match text::read(limits::desk(), bytes, &mut words) {
         Answer::Made(n) => {
             let table: &[u32] = &words;
             if n <= table.len() {

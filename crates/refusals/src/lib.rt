@@ -27,6 +27,7 @@ pub enum Refusal {
     TooManyDriven,
     CountDiffers,
     HeaderWrong,
+    LimitsOutside,
 }
 
 // A step that has nothing to say when it is accepted.
@@ -66,6 +67,7 @@ pub fn report_of(r: Refusal) -> Report
         Refusal::TooManyDriven => Report(22, 0),
         Refusal::CountDiffers => Report(23, 0),
         Refusal::HeaderWrong => Report(24, 0),
+        Refusal::LimitsOutside => Report(25, 0),
     }
 }
 

@@ -22,13 +22,14 @@ use Rattle.logic.proofs.Lasso.Truth.{truth-holds}
 use Rattle.table.specs.Node.{kind, left, right, pack, shape}
 use Rattle.refusals.specs.declared.Outcome.{Outcome}
 use Rattle.refusals.specs.declared.Outcome.the-variants.{Accepted, Refused}
-use Rattle.refusals.specs.Refusals.{numberOf, placeOf}
+use Rattle.refusals.specs.Refusals.{numberOf, placeOf, first}
 use Rattle.table.specs.Table.{formulaOf, wordFormula, formulasAfter, formulas, rule}
 use Rattle.table.specs.Checks.{occurs, wordChecks, wordsChecks, uses, used, useChecks}
+use Rattle.table.specs.StepChecks.{limitChecks, fixpointChecks}
 use Rattle.table.specs.Header.{isWritten, classOf, headerOf, headed, body, isMisheaded, headedChecks, headedChecked}
 use Rattle.table.specs.Numbering.{findFrom, find, put, build, tableOf}
 use Rattle.table.specs.Steps.{plainTable, fixpoints, normalTable}
-use Rattle.table.specs.Cases.{Case, normal, plain, refused, class, judged, IsRefusal, Right, starred}
+use Rattle.table.specs.Cases.{Case, normal, plain, refused, refusedBy, class, judged, IsRefusal, Right, starred}
 
 sameList : List ℕ → List ℕ → Bool
 sameList [] [] = true
@@ -68,6 +69,7 @@ test : Case → Bool
 test (normal t u) = sameList (headed (normalTable (body t))) u
 test (plain t u) = sameList (headed (plainTable (body t))) u
 test (refused t n p) = isRefusal (headedChecked false 64 t) n p
+test (refusedBy s t n p) = isRefusal (first (s .checks t)) n p
 test (class t b) = eqb (classByte (rule (body t))) b
 test (judged t r bs) = matches (truth r (rule (body t))) 0 bs
 
@@ -76,11 +78,12 @@ unfolding test
 test-right (normal t u) h = same-list (headed (normalTable (body t))) u h
 test-right (plain t u) h = same-list (headed (plainTable (body t))) u h
 test-right (refused t n p) h = is-refusal (headedChecked false 64 t) n p h
+test-right (refusedBy s t n p) h = is-refusal (first (s .checks t)) n p h
 test-right (class t b) h = eqb→eq (classByte (rule (body t))) b h
 test-right (judged t r bs) h = λ i l. Iff·trans (Iff·symm (truth-holds r (rule (body t)) i)) (rw zero-add at (match-at (truth r (rule (body t))) 0 bs h i l))
 
 all-pass : T (allPass test starred)
-unfolding allPass test sameList isRefusal matches normalTable plainTable fixpoints rule formulas formulasAfter formulaOf wordFormula kind left right pack shape tableOf build put find findFrom normalForm choices choicesOf part chosen leastOf greatestOf steady recurring opening same ones onesIn negation.plain classByte isWritten classOf headerOf isMisheaded headedChecked headedChecks wordsChecks wordChecks useChecks uses used occurs truth sweep word place letterIn bit
+unfolding allPass test sameList isRefusal matches normalTable plainTable fixpoints rule formulas formulasAfter formulaOf wordFormula kind left right pack shape tableOf build put find findFrom normalForm choices choicesOf part chosen leastOf greatestOf steady recurring opening same ones onesIn negation.plain classByte isWritten classOf headerOf isMisheaded headedChecked headedChecks wordsChecks wordChecks useChecks limitChecks fixpointChecks uses used occurs truth sweep word place letterIn bit
 all-pass = tt
 
 -- every starred case holds

@@ -11,17 +11,17 @@ use lib.Seq.{take-append-seam}
 use borrow.Author.Tests.{ne-eqb, le-leb, lt-leb}
 use Rattle.logic.proofs.Numbers.{lt-or-le}
 use Rattle.refusals.specs.declared.Refusal.{Refusal}
-use Rattle.refusals.specs.declared.Refusal.the-variants.{ResultTooShort}
+use Rattle.refusals.specs.declared.Refusal.the-variants.{ResultTooShort, LimitsOutside}
 use Rattle.refusals.specs.declared.Outcome.{Outcome}
 use Rattle.refusals.specs.declared.Outcome.the-variants as outcome
 use Rattle.table.specs.declared.answer.Answer.the-variants.{Made, Refused}
 use Rattle.table.specs.declared.limits.Limits.{Limits}
-use Rattle.refusals.specs.Refusals.{first, numberOf}
-use Rattle.table.specs.Limits.{plainLimit}
+use Rattle.refusals.specs.Refusals.{first, decideBy, numberOf, outcomeNumber}
+use Rattle.table.specs.Limits.{isPermitted, plainLimit}
 use Rattle.table.specs.Header.{body, headedChecks, headedChecked}
 use Rattle.table.specs.Numbering.{room, fits}
-use Rattle.table.specs.StepChecks.{isFixpointWord, fixpointChecks, resultFits, resultChecks}
-use Rattle.table.specs.Frame.{Step, outcomeOf, answerBy, answerOf, resultBy, resultOf, answerNumber, classStep, plainStep, normalStep, dialectStep}
+use Rattle.table.specs.StepChecks.{isFixpointWord, limitChecks, fixpointChecks, resultFits, resultChecks}
+use Rattle.table.specs.Frame.{Step, stated, outcomeOf, answerBy, answerOf, resultBy, resultOf, answerNumber, classStep, plainStep, normalStep, dialectStep}
 use Rattle.refusals.proofs.First.{first-append-accepted, first-append-refused, first-append-both, AllRefusals, first-refusal}
 use Rattle.table.proofs.Header.{headed-refusal}
 
@@ -131,6 +131,15 @@ module _ (s : Step) (y : Early s) (t slice : List ℕ) where
       ↔ ((first (s .checks t) ≡ outcome.Accepted) × (resultFits (length (s .makes t)) (length slice) ≡ false))
   refused-for-length = (λ a. not-fitting a (first (s .checks t)) refl, λ p. ap answerNumber (too-long-answer s t slice (p .0) (p .1)))
 
+-- the limits that a house states are refused by 25
+pub stated-early : (l : Limits) {s : Step} → Early s → Early (stated l s)
+unfolding limitChecks
+stated-early l {s} y = record { early = λ t. by-limits t (isPermitted l) }
+  where
+    by-limits : (t : List ℕ) (b : Bool) (r : Refusal) → decideBy (not b) LimitsOutside (first (s .checks t)) ≡ outcome.Refused r → numberOf r ≡ 12 → ⊥
+    by-limits t true r e n = y .early t r e n
+    by-limits t false r e n = let z : _≡_ {A = ℕ} 25 12 = ap outcomeNumber e ∙ n in omega arith
+
 -- the steps of document 01 look at the length last
 pub class-early : Early classStep
 unfolding headedChecked
@@ -142,7 +151,7 @@ dialect-early = record { early = headed-refusal true 16383 }
 
 pub plain-early : (l : Limits) → Early (plainStep l)
 unfolding headedChecked
-plain-early l = record { early = headed-refusal false (l .written) }
+plain-early l = stated-early l (record { early = headed-refusal false (l .written) })
 
 -- the checks on until-like words refuse by 11 alone
 fixpoint-refusals : (limit n : ℕ) (ws : List ℕ) → AllRefusals (λ r. numberOf r ≡ 11) (fixpointChecks limit n ws)
@@ -161,7 +170,7 @@ fixpoint-refusal limit t r e = first-refusal (λ x. numberOf x ≡ 11) (fixpoint
 
 pub normal-early : (l : Limits) → Early (normalStep l)
 unfolding headedChecked
-normal-early l = record { early = λ s r e n. by-table s r n (first (headedChecks true (plainLimit l) s)) refl e }
+normal-early l = stated-early l (record { early = λ s r e n. by-table s r n (first (headedChecks true (plainLimit l) s)) refl e })
   where
     by-table : (s : List ℕ) (r : Refusal) → numberOf r ≡ 12 → (o : Outcome) → first (headedChecks true (plainLimit l) s) ≡ o
         → first (headedChecks true (plainLimit l) s ++ fixpointChecks (l .fixpoints) 1 (body s)) ≡ outcome.Refused r → ⊥

@@ -6,5 +6,6 @@ pub mod Formulas
 pub mod Accepted
 pub mod Letters
 pub mod Header
+pub mod Stated
 pub mod Frame
 pub mod Cases

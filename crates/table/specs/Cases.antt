@@ -13,10 +13,12 @@ use Rattle.logic.specs.ClassByte.{classByte}
 use Rattle.refusals.specs.declared.Refusal.{Refusal}
 use Rattle.refusals.specs.declared.Outcome.{Outcome}
 use Rattle.refusals.specs.declared.Outcome.the-variants.{Accepted, Refused}
-use Rattle.refusals.specs.Refusals.{numberOf, placeOf}
+use Rattle.refusals.specs.Refusals.{numberOf, placeOf, first}
 use Rattle.table.specs.Table.{rule}
 use Rattle.table.specs.Header.{headed, body, headedChecked}
+use Rattle.table.specs.Limits.{house}
 use Rattle.table.specs.Steps.{plainTable, normalTable}
+use Rattle.table.specs.Frame.{Step, plainStep, normalStep}
 
 pub data Case : Type 0 where
   -- a plain table, and its normal form's
@@ -25,6 +27,8 @@ pub data Case : Type 0 where
   plain : List ℕ → List ℕ → Case
   -- a written table, and the number and place of its refusal
   refused : List ℕ → ℕ → ℕ → Case
+  -- what is handed to a step, and the number and place of its refusal
+  refusedBy : Step → List ℕ → ℕ → ℕ → Case
   -- a table, and the class byte of its last word
   class : List ℕ → ℕ → Case
   -- a table, a recording, and whether the rule holds at each recorded position
@@ -40,6 +44,7 @@ abbrev pub Right : Case → Type 0
 Right (normal t u) = headed (normalTable (body t)) ≡ u
 Right (plain t u) = headed (plainTable (body t)) ≡ u
 Right (refused t n p) = IsRefusal (headedChecked false 64 t) n p
+Right (refusedBy s t n p) = IsRefusal (first (s .checks t)) n p
 Right (class t b) = classByte (rule (body t)) ≡ b
 Right (judged t r bs) = (i : ℕ) → i < length bs → Holds (word r) (rule (body t)) i ↔ T (getD bs i false)
 
@@ -84,4 +89,12 @@ starred =
     ∷ refused (0x00000001 ∷ 0x30000001 ∷ []) 24 0
     ∷ refused (0x101FC001 ∷ 0x30000001 ∷ []) 24 0
     ∷ refused (0x001FC002 ∷ 0x30000001 ∷ 0xD0000001 ∷ []) 24 0
+    -- of document 02, N6: a limit outside its range, before all else; a table over the written limit, and a plain one over twice that and two; and the
+    -- first until-like word over the limit
+    ∷ refusedBy (plainStep (house 0 8)) [] 25 0
+    ∷ refusedBy (plainStep (house 257 8)) [] 25 0
+    ∷ refusedBy (normalStep (house 64 11)) [] 25 0
+    ∷ refusedBy (plainStep (house 1 0)) (0x00000002 ∷ 0x30000001 ∷ 0xE0000001 ∷ []) 2 0
+    ∷ refusedBy (normalStep (house 1 10)) (0x001F4005 ∷ 0x30000001 ∷ []) 2 0
+    ∷ refusedBy (normalStep (house 256 0)) (0x001F0003 ∷ 0x30000001 ∷ 0x30000002 ∷ 0x90004002 ∷ []) 11 3
     ∷ []

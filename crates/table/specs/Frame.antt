@@ -13,7 +13,7 @@ use Rattle.table.specs.declared.limits.Limits.{Limits}
 use Rattle.refusals.specs.Refusals.{Check, first, reportOf, outcomeReport, numberOf}
 use Rattle.table.specs.Limits.{plainLimit, mostWords}
 use Rattle.table.specs.Header.{headed, body, headedChecks}
-use Rattle.table.specs.StepChecks.{fixpointChecks, resultChecks}
+use Rattle.table.specs.StepChecks.{limitChecks, fixpointChecks, resultChecks}
 use Rattle.table.specs.Steps.{classBytes, plainTable, normalTable, dialectTable}
 
 -- what a step checks of what is handed over, before 12, and what it makes of it
@@ -21,18 +21,22 @@ pub record Step : Type 0 where
   pub checks : List ℕ → List Check
   pub makes : List ℕ → List ℕ
 
+-- a step by limits that a house states: they are looked at first of all (document 02, N6)
+abbrev pub stated : Limits → Step → Step
+stated l s = record { checks = λ t. limitChecks l ++ s .checks t; makes = s .makes }
+
 -- the steps of document 01, over tables with their header; the class step makes bytes, one a word, the others a table with its header
 abbrev pub classStep : Step
 classStep = record { checks = headedChecks true mostWords; makes = λ s. classBytes (body s) }
 
 abbrev pub plainStep : Limits → Step
-plainStep l = record { checks = headedChecks false (l .written); makes = λ s. headed (plainTable (body s)) }
+plainStep l = stated l (record { checks = headedChecks false (l .written); makes = λ s. headed (plainTable (body s)) })
 
 abbrev pub normalStep : Limits → Step
-normalStep l = record {
+normalStep l = stated l (record {
   checks = λ s. headedChecks true (plainLimit l) s ++ fixpointChecks (l .fixpoints) 1 (body s);
   makes = λ s. headed (normalTable (body s));
-}
+})
 
 -- document 02, N4
 abbrev pub dialectStep : Step

@@ -1,18 +1,24 @@
--- The checks that stand beside those of a table: 18 of a program's input, 11 of a plain table, 12 of a result, 22 and 21 of the letters that are driven.
+-- The checks that stand beside those of a table: 25 of the limits, 18 of a program's input, 11 of a plain table, 12 of a result, 22 and 21 of the letters
+-- that are driven.
 -- The judge's, 13 to 17, stand with the judge.
 use Prim.Native.Nat.{ℕ, zero, suc, _%_, min}
 use mathlib.Core.Bool.{Bool, not, _&&_, cond}
 use mathlib.Core.List.{List, [], _∷_}
 use lib.Dec.{ltb, leb, eqb}
-use Rattle.refusals.specs.declared.Refusal.the-variants.{TooManyFixpoints, ResultTooShort, NotWords, LetterNotDriven, TooManyDriven}
+use Rattle.refusals.specs.declared.Refusal.the-variants.{TooManyFixpoints, ResultTooShort, NotWords, LetterNotDriven, TooManyDriven, LimitsOutside}
 use Rattle.refusals.specs.Refusals.{Check, _⇒_}
 use Rattle.table.specs.Node.{kind, right}
 use Rattle.table.specs.Checks.{isProposition, holdsRight}
-use Rattle.table.specs.Limits.{mostWords}
+use Rattle.table.specs.declared.limits.Limits.{Limits}
+use Rattle.table.specs.Limits.{isPermitted, mostWords}
 
 -- kinds 8 to 11, the until-like words
 abbrev pub isFixpointWord : ℕ → Bool
 isFixpointWord w = leb 8 (kind w) && leb (kind w) 11
+
+-- 25: a limit is outside its range
+unfoldable pub limitChecks : Limits → List Check
+limitChecks l = (not (isPermitted l) ⇒ LimitsOutside) ∷ []
 
 -- 18: the program's input is not whole words
 unfoldable pub inputChecks : ℕ → List Check

@@ -2,9 +2,9 @@
 -- table that is made passes the checks of the plain-form step.
 use Prim.Native.Nat.{ℕ, _≤_, _<_}
 use native.Mathlib.Omega.{arith}
-use mathlib.Core.Path.{_≡_, refl, ap, subst₂}
+use mathlib.Core.Path.{_≡_, refl, sym, ap, subst₂, _∙_}
 use mathlib.Core.Logic.{_↔_, ⊎-elim}
-use mathlib.Core.Bool.{false}
+use mathlib.Core.Bool.{Bool, true, false, true≢false}
 use mathlib.Core.List.{List, _++_}
 use mathlib.Core.Option.{Option, none, some}
 use lib.ListN.{length, drop}
@@ -14,7 +14,8 @@ use Rattle.refusals.specs.declared.Refusal.the-variants.{NotGrammar}
 use Rattle.refusals.specs.declared.Outcome.the-variants.{Accepted}
 use Rattle.table.specs.declared.answer.Answer.{Answer}
 use Rattle.table.specs.declared.answer.Answer.the-variants.{Made, Refused}
-use Rattle.table.specs.Limits.{desk}
+use Rattle.table.specs.declared.limits.Limits.{Limits}
+use Rattle.table.specs.Limits.{isPermitted}
 use Rattle.table.specs.Checks.{checked}
 use Rattle.table.specs.Numbering.{tableOf}
 use Rattle.table.specs.Header.{headed, headedChecked}
@@ -25,36 +26,50 @@ use Rattle.numbering.proofs.Accepted.{accepted-written}
 use Rattle.grammar.specs.Grammar.{Symbol, Rule, constant-rule, letter-rule, prefixed, bracketed, Reads, Departs}
 use Rattle.grammar.specs.Reader.{readingOf, departureOf}
 use Rattle.text.specs.Text.{textStep}
-use Rattle.text.specs.Reply.{Reply, too-long, departing, too-many, too-short, table}
+use Rattle.text.specs.Reply.{Read, too-long, departing, too-many, too-short, table, Reply, outside, permitted}
 use Rattle.grammar.proofs.Complete.{complete, one-reading}
 use Rattle.grammar.proofs.Sound.{sound}
 use Rattle.grammar.proofs.Viable.{departs, departs-once}
-use Rattle.text.proofs.Outcomes.{outcome-long, outcome-departs, outcome-many, outcome-short, outcome-made}
+use Rattle.text.proofs.Outcomes.{outcome-outside, outcome-long, outcome-departs, outcome-many, outcome-short, outcome-made}
 
 -- the reader reads exactly the grammar
 pub reads : (text : List ℕ) (φ : Formula) → Reads text φ ↔ (readingOf text ≡ some φ)
 reads text φ = (complete, sound text φ)
 
--- the reply and the slice are those that the grammar asks for
-module _ (text slice : List ℕ) where
-  both : {a b : Answer} {s t : List ℕ} → Reply text slice a s → (a ≡ b) × (s ≡ t) → Reply text slice b t
-  both r e = subst₂ (λ (a : Answer) (s : List ℕ). Reply text slice a s) (e .0) (e .1) r
+-- the reply and the slice are those that the limits and the grammar ask for
+module _ (l : Limits) (text slice : List ℕ) where
+  abbrev Replied : Type 0
+  Replied = Reply l text slice (answerOf (textStep l) text (length slice)) (resultOf (textStep l) text slice)
 
-  module _ (short : length text ≤ 1024) where
-    by-slice : (φ : Formula) → readingOf text ≡ some φ → length (tableOf φ) ≤ 64 → Reply text slice (answerOf (textStep desk) text (length slice)) (resultOf (textStep desk) text slice)
-    by-slice φ e h =
-        ⊎-elim
-        (λ l. both (too-short φ short (sound text φ e) h l) (outcome-short text slice short φ e h l))
-        (λ l. both (table φ short (sound text φ e) h l) (outcome-made text slice short φ e h l))
-        (lt-or-le (length slice) (length (headed (tableOf φ))))
+  both : {a b : Answer} {s t : List ℕ} → Reply l text slice a s → (a ≡ b) × (s ≡ t) → Reply l text slice b t
+  both r e = subst₂ (λ (a : Answer) (s : List ℕ). Reply l text slice a s) (e .0) (e .1) r
 
-    by-reading : (o : Option Formula) → readingOf text ≡ o → Reply text slice (answerOf (textStep desk) text (length slice)) (resultOf (textStep desk) text slice)
-    by-reading none e = both (departing (departureOf text) short (departs text e)) (outcome-departs text slice short (departureOf text) (e, refl))
-    by-reading (some φ) e =
-        ⊎-elim (λ h. both (too-many φ short (sound text φ e) h) (outcome-many text slice short φ e h)) (λ h. by-slice φ e h) (lt-or-le 64 (length (tableOf φ)))
+  module _ (p : isPermitted l ≡ true) where
+    module _ (short : length text ≤ 1024) where
+      by-slice : (φ : Formula) → readingOf text ≡ some φ → length (tableOf φ) ≤ l .written → Replied
+      by-slice φ e h =
+          ⊎-elim
+          (λ k. both (permitted p (too-short φ short (sound text φ e) h k)) (outcome-short l text slice p short φ e h k))
+          (λ k. both (permitted p (table φ short (sound text φ e) h k)) (outcome-made l text slice p short φ e h k))
+          (lt-or-le (length slice) (length (headed (tableOf φ))))
 
-  pub replied : Reply text slice (answerOf (textStep desk) text (length slice)) (resultOf (textStep desk) text slice)
-  replied = ⊎-elim (λ h. both (too-long h) (outcome-long text slice h)) (λ h. by-reading h (readingOf text) refl) (lt-or-le 1024 (length text))
+      by-reading : (o : Option Formula) → readingOf text ≡ o → Replied
+      by-reading none e = both (permitted p (departing (departureOf text) short (departs text e))) (outcome-departs l text slice p short (departureOf text) (e, refl))
+      by-reading (some φ) e =
+          ⊎-elim
+          (λ h. both (permitted p (too-many φ short (sound text φ e) h)) (outcome-many l text slice p short φ e h))
+          (λ h. by-slice φ e h)
+          (lt-or-le (l .written) (length (tableOf φ)))
+
+    by-length : Replied
+    by-length = ⊎-elim (λ h. both (permitted p (too-long h)) (outcome-long l text slice p h)) (λ h. by-reading h (readingOf text) refl) (lt-or-le 1024 (length text))
+
+  by-limits : (b : Bool) → isPermitted l ≡ b → Replied
+  by-limits true p = by-length p
+  by-limits false p = both (outside p) (outcome-outside l text slice p)
+
+  pub replied : Replied
+  replied = by-limits (isPermitted l) refl
 
 -- and the grammar asks for one reply
 read-departs : {text : List ℕ} {φ : Formula} {n : ℕ} → Reads text φ → Departs text n → ⊥
@@ -63,34 +78,40 @@ read-departs {φ = φ} r d = d .no-rule φ r
 same-length : {text : List ℕ} {φ ψ : Formula} → Reads text φ → Reads text ψ → length (tableOf φ) ≡ length (tableOf ψ)
 same-length r q = ap (λ (φ : Formula). length (tableOf φ)) (one-reading r q)
 
-pub one-reply : {text slice : List ℕ} {a b : Answer} {s t : List ℕ} → Reply text slice a s → Reply text slice b t → (a ≡ b) × (s ≡ t)
-one-reply (too-long h) (too-long k) = (refl, refl)
-one-reply (too-long h) (departing m l e) = absurd (omega arith)
-one-reply (too-long h) (too-many ψ l q k) = absurd (omega arith)
-one-reply (too-long h) (too-short ψ l q k j) = absurd (omega arith)
-one-reply (too-long h) (table ψ l q k j) = absurd (omega arith)
-one-reply (departing n h d) (too-long k) = absurd (omega arith)
-one-reply (departing n h d) (departing m l e) = (ap (λ (i : ℕ). Refused (NotGrammar i)) (departs-once d e), refl)
-one-reply (departing n h d) (too-many ψ l q k) = absurd (read-departs q d)
-one-reply (departing n h d) (too-short ψ l q k j) = absurd (read-departs q d)
-one-reply (departing n h d) (table ψ l q k j) = absurd (read-departs q d)
-one-reply (too-many φ h r g) (too-long k) = absurd (omega arith)
-one-reply (too-many φ h r g) (departing m l e) = absurd (read-departs r e)
-one-reply (too-many φ h r g) (too-many ψ l q k) = (refl, refl)
-one-reply (too-many φ h r g) (too-short ψ l q k j) = absurd (omega (arith, same-length r q))
-one-reply (too-many φ h r g) (table ψ l q k j) = absurd (omega (arith, same-length r q))
-one-reply (too-short φ h r g i) (too-long k) = absurd (omega arith)
-one-reply (too-short φ h r g i) (departing m l e) = absurd (read-departs r e)
-one-reply (too-short φ h r g i) (too-many ψ l q k) = absurd (omega (arith, same-length r q))
-one-reply (too-short φ h r g i) (too-short ψ l q k j) = (refl, refl)
-one-reply (too-short φ h r g i) (table ψ l q k j) = absurd (omega (arith, same-length r q))
-one-reply (table φ h r g i) (too-long k) = absurd (omega arith)
-one-reply (table φ h r g i) (departing m l e) = absurd (read-departs r e)
-one-reply (table φ h r g i) (too-many ψ l q k) = absurd (omega (arith, same-length r q))
-one-reply (table φ h r g i) (too-short ψ l q k j) = absurd (omega (arith, same-length r q))
-one-reply {slice = slice} (table φ h r g i) (table ψ l q k j) =
+one-read : {limit : ℕ} {text slice : List ℕ} {a b : Answer} {s t : List ℕ} → Read limit text slice a s → Read limit text slice b t → (a ≡ b) × (s ≡ t)
+one-read (too-long h) (too-long k) = (refl, refl)
+one-read (too-long h) (departing m l e) = absurd (omega arith)
+one-read (too-long h) (too-many ψ l q k) = absurd (omega arith)
+one-read (too-long h) (too-short ψ l q k j) = absurd (omega arith)
+one-read (too-long h) (table ψ l q k j) = absurd (omega arith)
+one-read (departing n h d) (too-long k) = absurd (omega arith)
+one-read (departing n h d) (departing m l e) = (ap (λ (i : ℕ). Refused (NotGrammar i)) (departs-once d e), refl)
+one-read (departing n h d) (too-many ψ l q k) = absurd (read-departs q d)
+one-read (departing n h d) (too-short ψ l q k j) = absurd (read-departs q d)
+one-read (departing n h d) (table ψ l q k j) = absurd (read-departs q d)
+one-read (too-many φ h r g) (too-long k) = absurd (omega arith)
+one-read (too-many φ h r g) (departing m l e) = absurd (read-departs r e)
+one-read (too-many φ h r g) (too-many ψ l q k) = (refl, refl)
+one-read (too-many φ h r g) (too-short ψ l q k j) = absurd (omega (arith, same-length r q))
+one-read (too-many φ h r g) (table ψ l q k j) = absurd (omega (arith, same-length r q))
+one-read (too-short φ h r g i) (too-long k) = absurd (omega arith)
+one-read (too-short φ h r g i) (departing m l e) = absurd (read-departs r e)
+one-read (too-short φ h r g i) (too-many ψ l q k) = absurd (omega (arith, same-length r q))
+one-read (too-short φ h r g i) (too-short ψ l q k j) = (refl, refl)
+one-read (too-short φ h r g i) (table ψ l q k j) = absurd (omega (arith, same-length r q))
+one-read (table φ h r g i) (too-long k) = absurd (omega arith)
+one-read (table φ h r g i) (departing m l e) = absurd (read-departs r e)
+one-read (table φ h r g i) (too-many ψ l q k) = absurd (omega (arith, same-length r q))
+one-read (table φ h r g i) (too-short ψ l q k j) = absurd (omega (arith, same-length r q))
+one-read {slice = slice} (table φ h r g i) (table ψ l q k j) =
     let e = one-reading r q in
     (ap (λ (χ : Formula). Made (length (headed (tableOf χ)))) e, ap (λ (χ : Formula). headed (tableOf χ) ++ drop (length (headed (tableOf χ))) slice) e)
+
+pub one-reply : {l : Limits} {text slice : List ℕ} {a b : Answer} {s t : List ℕ} → Reply l text slice a s → Reply l text slice b t → (a ≡ b) × (s ≡ t)
+one-reply (outside p) (outside q) = (refl, refl)
+one-reply (outside p) (permitted q r) = absurd (true≢false (sym q ∙ p))
+one-reply (permitted p r) (outside q) = absurd (true≢false (sym p ∙ q))
+one-reply (permitted p r) (permitted q s) = one-read r s
 
 -- a rule's letters are 1 to 32, so its table passes the checks of the plain-form step
 rule-letters : {xs : List Symbol} {φ : Formula} → Rule xs φ → Letters (λ p. (0 < p) × (p ≤ 32)) φ

@@ -1,4 +1,4 @@
--- The step that makes a table of a text, in the frame of the other steps: its checks 20, 19 and 2, and what it makes.
+-- The step that makes a table of a text, in the frame of the other steps: its checks 25, 20, 19 and 2, and what it makes.
 use Prim.Native.Nat.{ℕ}
 use mathlib.Core.List.{List, [], _∷_}
 use mathlib.Core.Option.{Option, none, some}
@@ -10,7 +10,7 @@ use Rattle.table.specs.declared.limits.Limits.{Limits}
 use Rattle.refusals.specs.Refusals.{_⇒_}
 use Rattle.table.specs.Numbering.{tableOf}
 use Rattle.table.specs.Header.{headed}
-use Rattle.table.specs.Frame.{Step}
+use Rattle.table.specs.Frame.{Step, stated}
 use Rattle.grammar.specs.Reader.{isNone, readingOf, departureOf}
 use Rattle.parsing.specs.Parsed.{mostBytes}
 
@@ -22,13 +22,18 @@ tableBy (some φ) = tableOf φ
 unfoldable pub textTable : List ℕ → List ℕ
 textTable text = tableBy (readingOf text)
 
-abbrev pub textStep : Limits → Step
-textStep l = record {
+-- by a written limit
+abbrev pub readStep : ℕ → Step
+readStep limit = record {
   checks =
       λ text.
       (ltb mostBytes (length text) ⇒ TextTooLong)
       ∷ (isNone (readingOf text) ⇒ NotGrammar (departureOf text))
-      ∷ (ltb (l .written) (length (textTable text)) ⇒ TooManyWords)
+      ∷ (ltb limit (length (textTable text)) ⇒ TooManyWords)
       ∷ [];
   makes = λ text. headed (textTable text);
 }
+
+-- by the limits of a house
+abbrev pub textStep : Limits → Step
+textStep l = stated l (readStep (l .written))

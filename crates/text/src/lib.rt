@@ -2,17 +2,20 @@
 use parsing::parse;
 use refusals::Refusal;
 use table::answer::Answer;
+use table::limits::Limits;
 ghost use mathlib.Core.Path.{_≡_};
 ghost use lib.ListN.{length};
-ghost use Rattle.table.specs.Limits.{desk};
 ghost use Rattle.table.specs.Frame.{answerOf, resultOf};
 ghost use Rattle.text.specs.Text.{textStep};
 
 // The table's length, or why there is none.
-pub fn read(text: &[u8], result: &mut [u32]) -> Answer
-    ensures { λ r. ⌜ r ≡ answerOf (textStep desk) (now (text .entry)) (length (now (result .entry))) ⌝ }
-    ensures { λ r. ⌜ now (result .exit) ≡ resultOf (textStep desk) (now (text .entry)) (now (result .entry)) ⌝ }
+pub fn read(limits: Limits, text: &[u8], result: &mut [u32]) -> Answer
+    ensures { λ r. ⌜ r ≡ answerOf (textStep limits) (now (text .entry)) (length (now (result .entry))) ⌝ }
+    ensures { λ r. ⌜ now (result .exit) ≡ resultOf (textStep limits) (now (text .entry)) (now (result .entry)) ⌝ }
 {
+    if !limits::permitted(limits) {
+        return Answer::Refused(Refusal::LimitsOutside);
+    }
     if 1024 < text.len() {
         return Answer::Refused(Refusal::TextTooLong);
     }
@@ -24,7 +27,7 @@ pub fn read(text: &[u8], result: &mut [u32]) -> Answer
     if place != 0 {
         return Answer::Refused(Refusal::NotGrammar(place));
     }
-    if 64 < n {
+    if limits.written < n {
         return Answer::Refused(Refusal::TooManyWords);
     }
     headed_copy::write(&out[..n], result)

@@ -1,8 +1,9 @@
 //! The fixed inputs: the rules of source 000's Tables 6 and 8 with their negations, and the edges that documents 01 and 02 name.
-use crate::generate::with_table;
+use crate::generate::{with_table, with_text};
 use crate::input::Input;
 use crate::numbers::Numbers;
-use reference::edges::{chain_of, chain_of_ands, chain_of_next, headed, long_forms, nested};
+use reference::edges::{chain_of, chain_of_ands, chain_of_next, headed, long_forms, long_forms_of_ten, nested};
+use reference::limits::Limits;
 use reference::rules::rules;
 use reference::texts::texts;
 
@@ -17,18 +18,49 @@ pub fn inputs() -> Vec<Input> {
     tables.extend(long_forms().into_iter().map(|(_, words)| words));
     let mut inputs = Vec::new();
     for (n, table) in (0..).zip(tables.iter().map(|words| headed(words)).chain(headers())) {
-        // several rooms and recordings each
+        // several rooms and recordings each, under the program's limits and others by turns
         for again in 0..if table.len() > 1000 { 2 } else { 6 } {
-            inputs.push(with_table(&mut Numbers::new(7, n * 10 + again), table.clone()));
+            let mut numbers = Numbers::new(7, n * 10 + again);
+            inputs.push(match again % 2 {
+                0 => with_text(&mut numbers, Limits::DESK, table.clone(), vec![]),
+                _ => with_table(&mut numbers, table.clone()),
+            });
         }
     }
     inputs.extend((0..).zip(nested(3)).map(|(n, (_, words))| with_table(&mut Numbers::new(8, n), headed(&words))));
     for (n, (_, text)) in (0..).zip(texts()) {
         for text_table in [0, 1, 2, 10, 20, 63, 64, 65, 66, 70] {
-            let of_table = with_table(&mut Numbers::new(9, n), headed(&[0x3000_0001]));
-            inputs.push(Input { text: text.clone(), text_table, ..of_table });
+            let of_letter = with_text(&mut Numbers::new(9, n), Limits::DESK, headed(&[0x3000_0001]), text.clone());
+            inputs.push(Input { text_table, ..of_letter });
         }
     }
+    inputs.extend((0..).zip(limits()).map(|(n, (limits, words))| {
+        let text = format!("{}p1", "X".repeat(words.len().saturating_sub(1)));
+        with_text(&mut Numbers::new(10, n), limits, headed(&words), text.into_bytes())
+    }));
+    inputs
+}
+
+/// Limits at the edges of their ranges, and tables at the edges that these set.
+fn limits() -> Vec<(Limits, Vec<u32>)> {
+    let house = |written, until_like| Limits { written, until_like };
+    let mut inputs = Vec::new();
+    for written in [0, 1, 256, 257, usize::MAX] {
+        for until_like in [0, 10, 11, usize::MAX] {
+            inputs.extend([0, 1, 257].map(|words| (house(written, until_like), chain_of_next(words))));
+        }
+    }
+    for written in [1, 2, 5, 63, 65, 127, 255, 256] {
+        for words in [written, 2 * written + 2] {
+            inputs.extend([words - 1, words, words + 1].map(|words| (house(written, 8), chain_of_next(words))));
+        }
+    }
+    for until_like in 0..=10 {
+        for kind in 8..12 {
+            inputs.extend([until_like.max(1), until_like + 1].map(|k| (house(16, until_like), chain_of(kind, k))));
+        }
+    }
+    inputs.extend(long_forms_of_ten().map(|(_, words)| (Limits::HIGHEST, words)));
     inputs
 }
 

@@ -1,11 +1,13 @@
-//! Random inputs: valid tables in any word order, tables damaged by a bit or a word, too long and too short ones, damaged headers, and
-//! rooms at and around what the results need.
+//! Random inputs: valid tables in any word order, tables damaged by a bit or a word, too long and too short ones, damaged headers, limits
+//! around what the table has, and rooms at and around what the results need.
 use crate::input::Input;
 use crate::library::Reference;
 use crate::numbers::Numbers;
 use crate::texts;
+use reference::checks::until_like;
 use reference::edges::headed;
 use reference::header::words;
+use reference::limits::Limits;
 use reference::steps;
 use reference::word::{Word, MOST_WORDS};
 use std::collections::HashSet;
@@ -33,7 +35,7 @@ fn damage_header(numbers: &mut Numbers, table: &mut Vec<u32>) {
         3 => drop(table.remove(0)),
         4 => drop(table.pop()),
         5 => table.push(numbers.one_of(&[0, 0x3000_0001, 0x7000_0001])),
-        6 => table[0] = table[0] & !0x3FFF | numbers.one_of(&[0, 1, 63, 64, 65, 129, 130, 131, 16_382, 16_383]),
+        6 => table[0] = table[0] & !0x3FFF | numbers.one_of(&[0, 1, 64, 65, 130, 131, 256, 257, 514, 515, 16_383]),
         7 => table[0] = table[0] & !0x3FFF | (count + 1) & 0x3FFF,
         8 => table[0] = table[0] & !0x3FFF | count.wrapping_sub(1) & 0x3FFF,
         9 | 10 => table[0] = table[0] & !0x0FFF_C000 | class << 14,
@@ -45,29 +47,31 @@ fn damage_header(numbers: &mut Numbers, table: &mut Vec<u32>) {
     }
 }
 
-/// An input with this table, under its header: a text, a recording, a tally and rooms for them.
+/// An input with this table, under its header.
 pub fn with_table(numbers: &mut Numbers, table: Vec<u32>) -> Input {
-    let reference = Reference::default();
-    // lengths count the header; where nothing is made, there is none
-    let plain_bits: Vec<u32> = reference.plain_words(&table).unwrap_or_default().iter().map(|w| w.bits()).collect();
-    let plain = if plain_bits.is_empty() { 0 } else { 1 + plain_bits.len() };
-    let normal = reference.normal_words(&table).map_or(0, |form| 1 + form.len());
-    let form = reference.normal_words(&headed(&plain_bits)).map_or(0, |form| 1 + form.len());
-    let dialect = steps::dialect_words(&table).map_or(0, |made| 1 + made.len());
+    let text = texts::text(numbers, &table);
+    let limits = limits(numbers, words(&table), &text);
+    with_text(numbers, limits, table, text)
+}
+
+/// An input with this table and this text, under these limits: a recording, a tally and rooms for them.
+pub fn with_text(numbers: &mut Numbers, limits: Limits, table: Vec<u32>, text: Vec<u8>) -> Input {
+    let Lengths { plain, normal, dialect, form } = lengths(&table, limits);
     let count = words(&table).len();
     let samples = samples(numbers, count);
     let rows = count * samples.len().div_ceil(64);
     let (judged, held) = tally(numbers);
-    let input = Input {
-        text: vec![],
-        text_table: 0,
+    Input {
+        text_table: room(numbers, steps::text_words(&text, limits).map_or(20, |words| 1 + words.len())),
+        text,
+        limits,
         plain_only: numbers.once_in(2),
         limit: if numbers.once_in(3) { room(numbers, count) } else { numbers.one_of(&[0, 64, 130, 16_383, 16_384, usize::MAX]) },
         bytes: room(numbers, count),
         plain: room(numbers, plain),
         normal: room(numbers, normal),
         dialect: room(numbers, dialect),
-        form_plain: if numbers.once_in(6) { room(numbers, plain) } else { 131 },
+        form_plain: if numbers.once_in(6) { room(numbers, plain) } else { 1 + Limits::HIGHEST.plain() },
         form: room(numbers, form),
         start: start(numbers, samples.len()),
         driven: driven(numbers, words(&table)),
@@ -77,10 +81,56 @@ pub fn with_table(numbers: &mut Numbers, table: Vec<u32>) -> Input {
         judged,
         held,
         table,
+    }
+}
+
+/// The lengths of what each step makes of a table, its header counted; where nothing is made, there is none.
+pub struct Lengths {
+    pub plain: usize,
+    pub normal: usize,
+    pub dialect: usize,
+    pub form: usize,
+}
+
+pub fn lengths(table: &[u32], limits: Limits) -> Lengths {
+    let reference = Reference::default();
+    let plain: Vec<u32> = reference.plain_words(table, limits).unwrap_or_default().iter().map(|w| w.bits()).collect();
+    Lengths {
+        plain: if plain.is_empty() { 0 } else { 1 + plain.len() },
+        normal: reference.normal_words(table, limits).map_or(0, |form| 1 + form.len()),
+        dialect: steps::dialect_words(table).map_or(0, |made| 1 + made.len()),
+        form: reference.normal_words(&headed(&plain), limits).map_or(0, |form| 1 + form.len()),
+    }
+}
+
+/// Limits of a house: often the program's, or such that the table or the text keeps to them or is one over; at times the lowest, the highest
+/// or any; and some outside their ranges.
+fn limits(numbers: &mut Numbers, words: &[u32], text: &[u8]) -> Limits {
+    let around = |numbers: &mut Numbers, n: usize| (n + 1).saturating_sub(numbers.below(3));
+    let written = match numbers.below(40) {
+        0 => numbers.one_of(&[0, 257, 1_000, usize::MAX]),
+        1 => 1,
+        2 | 3 => 256,
+        4..=8 => around(numbers, words.len()),
+        // of plain tables
+        9 | 10 => around(numbers, words.len().saturating_sub(1) / 2),
+        11 | 12 => around(numbers, steps::text_words(text, Limits::HIGHEST).map_or(64, |words| words.len())),
+        13..=24 => numbers.between(1, 256),
+        _ if words.len() > 64 => 256,
+        _ => 64,
     };
-    let text = texts::text(numbers, &input.table);
-    let text_table = room(numbers, steps::text_words(&text).map_or(20, |words| 1 + words.len()));
-    Input { text, text_table, ..input }
+    // the reference takes its time over ten until-like words, and longer over long tables
+    let (own, most) = (until_like(words).len(), if words.len() < 30 { 10 } else { 8 });
+    let until_like = match numbers.below(40) {
+        0 => numbers.one_of(&[11, 12, 1_000, usize::MAX]),
+        1 => 0,
+        2..=7 => around(numbers, own).min(most),
+        8..=12 => numbers.between(0, most),
+        13..=17 => most,
+        _ if own > 8 => most,
+        _ => 8,
+    };
+    Limits { written, until_like }
 }
 
 /// A room for something so long: mostly enough, often exactly, and sometimes too little.
@@ -101,12 +151,13 @@ fn table_words(numbers: &mut Numbers) -> Vec<u32> {
         0..=599 => numbers.between(1, 12),
         600..=899 => numbers.between(8, 40),
         900..=979 => numbers.between(40, 70),
-        980..=997 => numbers.between(60, 140),
-        998 => numbers.between(140, 1500),
+        980..=986 => numbers.between(60, 140),
+        987..=997 => numbers.between(120, 520),
+        998 => numbers.between(500, 1500),
         _ => numbers.one_of(&[16_382, 16_383, 16_384, 16_390]),
     };
     let plain = numbers.once_in(3);
-    let until_like = numbers.one_of(&[0, 1, 2, 2, 3, 3, 3, 4, 4, 5, 6, 8, 9, usize::MAX]);
+    let until_like = numbers.one_of(&[0, 1, 2, 2, 3, 3, 3, 4, 4, 5, 6, 8, 9, 10, usize::MAX]);
     let letters = numbers.one_of(&[1, 2, 2, 3, 3, 4, 32]);
     let words = Grown::new(numbers, size, plain, until_like, letters).words;
     reordered(numbers, &words)

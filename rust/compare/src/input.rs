@@ -1,5 +1,6 @@
-//! One input of every step: a text, a table, a recording, a tally, and the rooms of the slices that are lent.
+//! One input of every step: a text, a table, limits, a recording, a tally, and the rooms of the slices that are lent.
 use reference::header::words;
+use reference::limits::Limits;
 use reference::recording::Recording;
 use std::fmt;
 
@@ -10,6 +11,8 @@ pub struct Input {
     pub text_table: usize,
     /// With its header, or what stands in its place.
     pub table: Vec<u32>,
+    /// Of the house: for the text, the plain form, the normal form and the whole way.
+    pub limits: Limits,
     /// Of the check by itself.
     pub plain_only: bool,
     pub limit: usize,
@@ -52,6 +55,8 @@ impl Input {
             words(&self.table).iter().map(|&w| w as u64).sum::<u64>() + self.text.iter().map(|&b| b as u64).sum::<u64>();
         let rest = self.start as u64
             + self.driven.min(1 << 40) as u64
+            + self.limits.written.min(1 << 40) as u64
+            + self.limits.until_like.min(1 << 40) as u64
             + self.judged as u64
             + self.held as u64
             + self.limit.min(1 << 40) as u64
@@ -67,6 +72,7 @@ impl fmt::Display for Input {
         let hex = |words: &[u32]| words.iter().map(|w| format!(" {w:08X}")).collect::<String>();
         writeln!(f, "text of {} bytes: \"{}\", room {}", self.text.len(), self.text.escape_ascii(), self.text_table)?;
         writeln!(f, "table, {} words with its header:{}", self.table.len(), hex(&self.table))?;
+        writeln!(f, "limits: {} words, {} until-like words", self.limits.written, self.limits.until_like)?;
         writeln!(f, "check: plain only {}, limit {}", self.plain_only, self.limit)?;
         writeln!(
             f,

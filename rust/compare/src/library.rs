@@ -1,5 +1,6 @@
 //! The calls of `include/showrule.h`, answered by the proved library and by the reference.
 use reference::checks::Refusal;
+use reference::limits::Limits;
 use reference::recording::Recording;
 use reference::steps;
 use reference::word::Word;
@@ -20,11 +21,19 @@ pub struct Lent {
 pub trait Library {
     fn check(&self, table: &[u32], plain: bool, limit: usize, place: &mut usize) -> u32;
     fn classify(&self, table: &[u32], bytes: &mut [u8], place: &mut usize) -> u32;
-    fn text(&self, text: &[u8], result: &mut [u32], length: &mut usize, place: &mut usize) -> u32;
-    fn plain(&self, table: &[u32], result: &mut [u32], length: &mut usize, place: &mut usize) -> u32;
-    fn normal(&self, table: &[u32], result: &mut [u32], length: &mut usize, place: &mut usize) -> u32;
+    fn text(&self, text: &[u8], limits: Limits, result: &mut [u32], length: &mut usize, place: &mut usize) -> u32;
+    fn plain(&self, table: &[u32], limits: Limits, result: &mut [u32], length: &mut usize, place: &mut usize) -> u32;
+    fn normal(&self, table: &[u32], limits: Limits, result: &mut [u32], length: &mut usize, place: &mut usize) -> u32;
     fn dialect(&self, table: &[u32], result: &mut [u32], length: &mut usize, place: &mut usize) -> u32;
-    fn form(&self, table: &[u32], plain: &mut [u32], result: &mut [u32], length: &mut usize, place: &mut usize) -> u32;
+    fn form(
+        &self,
+        table: &[u32],
+        limits: Limits,
+        plain: &mut [u32],
+        result: &mut [u32],
+        length: &mut usize,
+        place: &mut usize,
+    ) -> u32;
     fn judge(&self, table: &[u32], recording: Recording, scratch: &mut [u64], lent: &mut Lent, place: &mut usize) -> u32;
     fn row(
         &self,
@@ -48,25 +57,37 @@ impl Library for Product {
         unsafe { ffi::showrule_classify(table.as_ptr(), table.len(), bytes.as_mut_ptr(), bytes.len(), place) }
     }
 
-    fn text(&self, text: &[u8], result: &mut [u32], length: &mut usize, place: &mut usize) -> u32 {
-        unsafe { ffi::showrule_text(text.as_ptr(), text.len(), result.as_mut_ptr(), result.len(), length, place) }
+    fn text(&self, text: &[u8], limits: Limits, result: &mut [u32], length: &mut usize, place: &mut usize) -> u32 {
+        let (w, u) = (limits.written, limits.until_like);
+        unsafe { ffi::showrule_text(text.as_ptr(), text.len(), w, u, result.as_mut_ptr(), result.len(), length, place) }
     }
 
-    fn plain(&self, table: &[u32], result: &mut [u32], length: &mut usize, place: &mut usize) -> u32 {
-        unsafe { ffi::showrule_plain(table.as_ptr(), table.len(), result.as_mut_ptr(), result.len(), length, place) }
+    fn plain(&self, table: &[u32], limits: Limits, result: &mut [u32], length: &mut usize, place: &mut usize) -> u32 {
+        let (w, u) = (limits.written, limits.until_like);
+        unsafe { ffi::showrule_plain(table.as_ptr(), table.len(), w, u, result.as_mut_ptr(), result.len(), length, place) }
     }
 
-    fn normal(&self, table: &[u32], result: &mut [u32], length: &mut usize, place: &mut usize) -> u32 {
-        unsafe { ffi::showrule_normal(table.as_ptr(), table.len(), result.as_mut_ptr(), result.len(), length, place) }
+    fn normal(&self, table: &[u32], limits: Limits, result: &mut [u32], length: &mut usize, place: &mut usize) -> u32 {
+        let (w, u) = (limits.written, limits.until_like);
+        unsafe { ffi::showrule_normal(table.as_ptr(), table.len(), w, u, result.as_mut_ptr(), result.len(), length, place) }
     }
 
     fn dialect(&self, table: &[u32], result: &mut [u32], length: &mut usize, place: &mut usize) -> u32 {
         unsafe { ffi::showrule_dialect(table.as_ptr(), table.len(), result.as_mut_ptr(), result.len(), length, place) }
     }
 
-    fn form(&self, table: &[u32], plain: &mut [u32], result: &mut [u32], length: &mut usize, place: &mut usize) -> u32 {
+    fn form(
+        &self,
+        table: &[u32],
+        limits: Limits,
+        plain: &mut [u32],
+        result: &mut [u32],
+        length: &mut usize,
+        place: &mut usize,
+    ) -> u32 {
+        let (w, u) = (limits.written, limits.until_like);
         let (p, r) = (plain.as_mut_ptr(), result.as_mut_ptr());
-        unsafe { ffi::showrule_form(table.as_ptr(), table.len(), p, plain.len(), r, result.len(), length, place) }
+        unsafe { ffi::showrule_form(table.as_ptr(), table.len(), w, u, p, plain.len(), r, result.len(), length, place) }
     }
 
     fn judge(&self, table: &[u32], recording: Recording, scratch: &mut [u64], lent: &mut Lent, place: &mut usize) -> u32 {
@@ -106,7 +127,7 @@ impl Library for Product {
     }
 }
 
-type Forms = RefCell<HashMap<Vec<u32>, Result<Vec<Word>, Refusal>>>;
+type Forms = RefCell<HashMap<(Vec<u32>, Limits), Result<Vec<Word>, Refusal>>>;
 
 /// The reference. The words of a form are made once an input, whatever slices it is written to.
 #[derive(Default)]
@@ -116,12 +137,12 @@ pub struct Reference {
 }
 
 impl Reference {
-    pub fn plain_words(&self, table: &[u32]) -> Result<Vec<Word>, Refusal> {
-        self.plain.borrow_mut().entry(table.to_vec()).or_insert_with(|| steps::plain_words(table)).clone()
+    pub fn plain_words(&self, table: &[u32], limits: Limits) -> Result<Vec<Word>, Refusal> {
+        self.plain.borrow_mut().entry((table.to_vec(), limits)).or_insert_with(|| steps::plain_words(table, limits)).clone()
     }
 
-    pub fn normal_words(&self, table: &[u32]) -> Result<Vec<Word>, Refusal> {
-        self.normal.borrow_mut().entry(table.to_vec()).or_insert_with(|| steps::normal_words(table)).clone()
+    pub fn normal_words(&self, table: &[u32], limits: Limits) -> Result<Vec<Word>, Refusal> {
+        self.normal.borrow_mut().entry((table.to_vec(), limits)).or_insert_with(|| steps::normal_words(table, limits)).clone()
     }
 }
 
@@ -154,25 +175,33 @@ impl Library for Reference {
         told(steps::classify(table, bytes), place).0
     }
 
-    fn text(&self, text: &[u8], result: &mut [u32], length: &mut usize, place: &mut usize) -> u32 {
-        length_told(steps::text(text, result), length, place)
+    fn text(&self, text: &[u8], limits: Limits, result: &mut [u32], length: &mut usize, place: &mut usize) -> u32 {
+        length_told(steps::text(text, limits, result), length, place)
     }
 
-    fn plain(&self, table: &[u32], result: &mut [u32], length: &mut usize, place: &mut usize) -> u32 {
-        length_told(steps::write(self.plain_words(table), result), length, place)
+    fn plain(&self, table: &[u32], limits: Limits, result: &mut [u32], length: &mut usize, place: &mut usize) -> u32 {
+        length_told(steps::write(self.plain_words(table, limits), result), length, place)
     }
 
-    fn normal(&self, table: &[u32], result: &mut [u32], length: &mut usize, place: &mut usize) -> u32 {
-        length_told(steps::write(self.normal_words(table), result), length, place)
+    fn normal(&self, table: &[u32], limits: Limits, result: &mut [u32], length: &mut usize, place: &mut usize) -> u32 {
+        length_told(steps::write(self.normal_words(table, limits), result), length, place)
     }
 
     fn dialect(&self, table: &[u32], result: &mut [u32], length: &mut usize, place: &mut usize) -> u32 {
         length_told(steps::dialect(table, result), length, place)
     }
 
-    fn form(&self, table: &[u32], plain: &mut [u32], result: &mut [u32], length: &mut usize, place: &mut usize) -> u32 {
-        let made = steps::write(self.plain_words(table), plain);
-        length_told(made.and_then(|n| steps::write(self.normal_words(&plain[..n]), result)), length, place)
+    fn form(
+        &self,
+        table: &[u32],
+        limits: Limits,
+        plain: &mut [u32],
+        result: &mut [u32],
+        length: &mut usize,
+        place: &mut usize,
+    ) -> u32 {
+        let made = steps::write(self.plain_words(table, limits), plain);
+        length_told(made.and_then(|n| steps::write(self.normal_words(&plain[..n], limits), result)), length, place)
     }
 
     fn judge(&self, table: &[u32], recording: Recording, scratch: &mut [u64], lent: &mut Lent, place: &mut usize) -> u32 {

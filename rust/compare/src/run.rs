@@ -5,6 +5,7 @@ use reference::dialect::convert;
 use reference::edges::headed;
 use reference::forest::{Forest, Tree};
 use reference::header::words as words_of;
+use reference::limits::Limits;
 use reference::listing::bits;
 use reference::recording::Recording;
 use reference::steps::check as checked;
@@ -92,21 +93,21 @@ fn classify(library: &dyn Library, input: &Input) -> Seen {
 fn text(library: &dyn Library, input: &Input) -> Seen {
     let mut result = words(input.text_table);
     let (mut made, mut place) = (BEFORE, BEFORE);
-    let number = library.text(&input.text, result.slice(), &mut made, &mut place);
+    let number = library.text(&input.text, input.limits, result.slice(), &mut made, &mut place);
     Seen { step: "text", number, lent: vec![made as u64, place as u64], memory: held(&result) }
 }
 
 fn plain(library: &dyn Library, input: &Input) -> Seen {
     let mut result = words(input.plain);
     let (mut made, mut place) = (BEFORE, BEFORE);
-    let number = library.plain(&input.table, result.slice(), &mut made, &mut place);
+    let number = library.plain(&input.table, input.limits, result.slice(), &mut made, &mut place);
     Seen { step: "plain form", number, lent: vec![made as u64, place as u64], memory: held(&result) }
 }
 
 fn normal(library: &dyn Library, input: &Input) -> Seen {
     let mut result = words(input.normal);
     let (mut made, mut place) = (BEFORE, BEFORE);
-    let number = library.normal(&input.table, result.slice(), &mut made, &mut place);
+    let number = library.normal(&input.table, input.limits, result.slice(), &mut made, &mut place);
     Seen { step: "normal form", number, lent: vec![made as u64, place as u64], memory: held(&result) }
 }
 
@@ -120,7 +121,7 @@ fn dialect(library: &dyn Library, input: &Input) -> Seen {
 fn form(library: &dyn Library, input: &Input) -> Seen {
     let (mut plain, mut result) = (words(input.form_plain), words(input.form));
     let (mut made, mut place) = (BEFORE, BEFORE);
-    let number = library.form(&input.table, plain.slice(), result.slice(), &mut made, &mut place);
+    let number = library.form(&input.table, input.limits, plain.slice(), result.slice(), &mut made, &mut place);
     let memory = [held(&plain), held(&result)].concat();
     Seen { step: "whole way", number, lent: vec![made as u64, place as u64], memory }
 }
@@ -144,11 +145,9 @@ fn row(library: &dyn Library, input: &Input, step: &'static str, recording: Reco
 
 /// Demand 3, tried: whether the library's form of the rule holds where the rule does, and is in Delta-2, by its own judge and classes.
 fn agreement(library: &dyn Library, input: &Input) -> Seen {
-    let (mut plain, mut result) = (vec![0; 131], vec![0; 16_384]);
-    let (mut made, mut place) = (0, 0);
     let mut lent = AGREED.to_vec();
-    let form_made = library.form(&input.table, &mut plain, &mut result, &mut made, &mut place) == 0;
-    if form_made && (1..=4_096).contains(&input.samples.len()) && made * input.samples.len() < 400_000 {
+    let (number, made, _, result) = whole_way(library, &input.table, input.limits);
+    if number == 0 && (1..=4_096).contains(&input.samples.len()) && made * input.samples.len() < 400_000 {
         let class = *classes(library, &result[..made]).last().expect("a form has a word");
         lent = vec![same_truth(library, input, &result[..made]) as u64, (class >> 6 & 1).into()];
     }
@@ -230,29 +229,31 @@ const REDRIVEN: [&str; 2] = ["judge, other bits above the driven ones", "row, ot
 /// A written table printed as text, and that text read: whether it is printed as the reference prints it, whether the table comes back
 /// in first-need order (unless it has kind 4, which is read as two words), and whether both have the same form.
 fn round_trip(library: &dyn Library, input: &Input) -> Seen {
-    let table = &input.table;
+    let (table, limits) = (&input.table, input.limits);
     let mut lent = CAME_BACK.to_vec();
-    if checked(table, false, 64).is_ok() && shown_bytes(words_of(table)) <= 1_024 {
+    let takes = limits.permitted().and_then(|()| checked(table, false, limits.written)).is_ok();
+    if takes && shown_bytes(words_of(table)) <= 1_024 {
         let mut forest = Forest::new();
         let tree = *forest.of_words(words_of(table)).last().expect("a word");
         let text = show(&forest, tree);
-        let mut result = vec![0; 65];
+        let mut result = vec![0; 1 + limits.written];
         let (mut made, mut place) = (0, 0);
-        let number = library.text(text.as_bytes(), &mut result, &mut made, &mut place);
+        let number = library.text(text.as_bytes(), limits, &mut result, &mut made, &mut place);
         let kind_4 = table.iter().any(|word| word >> 28 == 4);
         let read = if number == 2 && kind_4 { table } else { &result[..made] };
         let as_printed = showrule::to_text(table, text.len()) == Ok(text);
         let back = kind_4 || read == headed(&bits(&forest, tree));
-        lent = vec![as_printed as u64, back as u64, (whole_way(library, table) == whole_way(library, read)) as u64];
+        let same = whole_way(library, table, limits) == whole_way(library, read, limits);
+        lent = vec![as_printed as u64, back as u64, same as u64];
     }
     Seen { step: ROUND_TRIP, number: 0, lent, memory: vec![] }
 }
 
 /// Number, length, place and words of a table's form.
-fn whole_way(library: &dyn Library, table: &[u32]) -> (u32, usize, usize, Vec<u32>) {
-    let (mut plain, mut result) = (vec![0; 131], vec![0; 16_384]);
+fn whole_way(library: &dyn Library, table: &[u32], limits: Limits) -> (u32, usize, usize, Vec<u32>) {
+    let (mut plain, mut result) = (vec![0; 1 + Limits::HIGHEST.plain()], vec![0; 1 + MOST_WORDS]);
     let (mut made, mut place) = (0, 0);
-    let number = library.form(table, &mut plain, &mut result, &mut made, &mut place);
+    let number = library.form(table, limits, &mut plain, &mut result, &mut made, &mut place);
     (number, made, place, result)
 }
 

@@ -5,8 +5,10 @@ use crate::library::{Lent, Library, Reference};
 use crate::numbers::Numbers;
 use crate::run::compare;
 use crate::smallest_difference;
+use reference::checks::until_like;
 use reference::edges::headed;
 use reference::header::{count, words};
+use reference::limits::Limits;
 use reference::recording::Recording;
 
 /// The reference with one fault.
@@ -35,6 +37,21 @@ enum Fault {
     HeaderNumbered,
     HeaderWithoutClass,
     HeaderLast,
+    LimitsUnread,
+    LimitsAfterTable,
+    UntilLikeUnreadForText,
+    AtLeastProgramsWords,
+    LastOverTheLimit,
+}
+
+impl Faulty {
+    /// The limits as the fault takes them.
+    fn limits(&self, limits: Limits) -> Limits {
+        if self.fault == Fault::LimitsUnread && limits.permitted().is_err() {
+            return Limits::DESK;
+        }
+        limits
+    }
 }
 
 impl Library for Faulty {
@@ -60,23 +77,34 @@ impl Library for Faulty {
         self.right.classify(table, bytes, place)
     }
 
-    fn text(&self, text: &[u8], result: &mut [u32], words: &mut usize, place: &mut usize) -> u32 {
-        let number = self.right.text(text, result, words, place);
+    fn text(&self, text: &[u8], limits: Limits, result: &mut [u32], words: &mut usize, place: &mut usize) -> u32 {
+        let mut limits = self.limits(limits);
+        if self.fault == Fault::UntilLikeUnreadForText {
+            limits.until_like = 8;
+        }
+        let number = self.right.text(text, limits, result, words, place);
         if self.fault == Fault::TextPlaceLate && number == 19 && *place <= text.len() && text.starts_with(b"(") {
             *place += 1;
         }
         // every word is counted, as if none were used again
         let counted = text.iter().filter(|&byte| b"pXFG!&|>UWRM".contains(byte)).count();
-        if self.fault == Fault::WordsBeforeGrammar && number == 19 && counted > 64 {
+        if self.fault == Fault::WordsBeforeGrammar && number == 19 && counted > limits.written {
             *place = 0;
             return 2;
         }
         number
     }
 
-    fn plain(&self, table: &[u32], result: &mut [u32], words: &mut usize, place: &mut usize) -> u32 {
+    fn plain(&self, table: &[u32], limits: Limits, result: &mut [u32], words: &mut usize, place: &mut usize) -> u32 {
         let before = result.to_vec();
-        let number = self.right.plain(table, result, words, place);
+        let mut limits = self.limits(limits);
+        if self.fault == Fault::AtLeastProgramsWords && limits.permitted().is_ok() {
+            limits.written = limits.written.max(64);
+        }
+        let number = self.right.plain(table, limits, result, words, place);
+        if self.fault == Fault::LimitsAfterTable && number == 25 && table.is_empty() {
+            return 1;
+        }
         if self.fault == Fault::RefusalUntouched && number == 12 {
             result.copy_from_slice(&before);
         }
@@ -89,8 +117,11 @@ impl Library for Faulty {
         number
     }
 
-    fn normal(&self, table: &[u32], result: &mut [u32], words: &mut usize, place: &mut usize) -> u32 {
-        let number = self.right.normal(table, result, words, place);
+    fn normal(&self, table: &[u32], limits: Limits, result: &mut [u32], words: &mut usize, place: &mut usize) -> u32 {
+        let number = self.right.normal(table, self.limits(limits), result, words, place);
+        if self.fault == Fault::LastOverTheLimit && number == 11 {
+            *place = *until_like(&table[1..]).last().unwrap();
+        }
         if self.fault == Fault::WordPastTheEnd && number == 0 && *words < result.len() {
             result[*words] = 0;
         }
@@ -110,8 +141,16 @@ impl Library for Faulty {
         number
     }
 
-    fn form(&self, table: &[u32], plain: &mut [u32], result: &mut [u32], words: &mut usize, place: &mut usize) -> u32 {
-        self.right.form(table, plain, result, words, place)
+    fn form(
+        &self,
+        table: &[u32],
+        limits: Limits,
+        plain: &mut [u32],
+        result: &mut [u32],
+        words: &mut usize,
+        place: &mut usize,
+    ) -> u32 {
+        self.right.form(table, self.limits(limits), plain, result, words, place)
     }
 
     fn judge(&self, table: &[u32], recording: Recording, scratch: &mut [u64], lent: &mut Lent, place: &mut usize) -> u32 {
@@ -181,6 +220,11 @@ fn faults_are_found_and_made_small() {
         Fault::HeaderNumbered,
         Fault::HeaderWithoutClass,
         Fault::HeaderLast,
+        Fault::LimitsUnread,
+        Fault::LimitsAfterTable,
+        Fault::UntilLikeUnreadForText,
+        Fault::AtLeastProgramsWords,
+        Fault::LastOverTheLimit,
     ] {
         let smallest = found(fault);
         // three words and the header
@@ -190,7 +234,6 @@ fn faults_are_found_and_made_small() {
         let right = smallest.table.is_empty() || smallest.table == headed(words(&smallest.table));
         assert!(of_header != right, "{smallest}");
         assert!(smallest.samples.len() <= 1, "{smallest}");
-        let bytes = if fault == Fault::WordsBeforeGrammar { 65 } else { 2 };
-        assert!(smallest.text.len() <= bytes, "{smallest}");
+        assert!(smallest.text.len() <= 2, "{smallest}");
     }
 }

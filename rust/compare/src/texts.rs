@@ -1,4 +1,4 @@
-//! Random texts: rules of all symbols with any spaces between them, around 64 words and around 1,024 bytes among the rest; such texts cut
+//! Random texts: rules of all symbols with any spaces between them, around 64 and 256 words and 1,024 bytes among the rest; such texts cut
 //! short, or with a byte changed, left out or put in; symbols in any order; any bytes.
 use crate::numbers::Numbers;
 use reference::forest::Forest;
@@ -9,7 +9,7 @@ use reference::text::{show, shown_bytes};
 /// A text, at times that of a table.
 pub fn text(numbers: &mut Numbers, table: &[u32]) -> Vec<u8> {
     let mut text = match numbers.below(20) {
-        0..=2 if check(table, false, 64).is_ok() && shown_bytes(words(table)) <= 1_100 => {
+        0..=2 if check(table, false, 256).is_ok() && shown_bytes(words(table)) <= 1_100 => {
             let mut forest = Forest::new();
             let tree = *forest.of_words(words(table)).last().expect("a word");
             show(&forest, tree).into_bytes()

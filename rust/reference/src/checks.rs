@@ -1,5 +1,5 @@
 //! The check table of documents 01 and 02. Every condition that applies is gathered with its rank, and the lowest rank is returned:
-//! "places run downward; the first that applies is returned".
+//! "places run downward; the first that applies is returned". Check 25 comes before all of them (`limits`), and 12 after (`fits`).
 use crate::header::{count, is_right, words};
 use crate::word::{Field, Word, MOST_WORDS};
 use std::collections::HashSet;
@@ -82,11 +82,10 @@ impl Faults {
         }
     }
 
-    /// Check 11: the place is the ninth until-like word.
-    pub fn until_like(&mut self, words: &[u32]) -> &mut Faults {
-        let places: Vec<usize> = until_like(words);
-        if places.len() > 8 {
-            self.note(true, (UNTIL_LIKE, places[8], 0), 11);
+    /// Check 11: the place is the first until-like word over the limit.
+    pub fn until_like(&mut self, words: &[u32], limit: usize) -> &mut Faults {
+        if let Some(&place) = until_like(words).get(limit) {
+            self.note(true, (UNTIL_LIKE, place, 0), 11);
         }
         self
     }

@@ -1,5 +1,5 @@
-//! Rules at the edges that document 01 names, for the cases, the runs of the program and the comparison: words, which get their header by
-//! `headed`.
+//! Rules at the edges that documents 01 and 02 name, for the cases, the runs of the program and the comparison: words, which get their
+//! header by `headed`.
 use crate::checks::Faults;
 use crate::forest::{Forest, Node, Tree};
 use crate::header::header;
@@ -97,15 +97,33 @@ fn seven(forest: &mut Forest) -> [Tree; 7] {
     [c, e, d, pq, qp, a, b]
 }
 
+/// Plain rules of ten until-like words (document 02, N6) whose forms have as many words as any slice counts for, and one more: the form's
+/// words, without its header, and the rule's. Nine U words stand in one W word.
+pub fn long_forms_of_ten() -> [(usize, Vec<u32>); 2] {
+    let until = |letter: usize| format!("(p1 U p{letter})");
+    let next = |times: usize| "X".repeat(times);
+    // an X over the first j of the nine adds 2^j + 1 words to the form, one over the goal a single one
+    let over_first = [0, 1, 1, 1, 0, 1, 0, 16];
+    let join = |joined: String, (letter, times)| format!("{}({joined} & {})", next(times), until(letter));
+    let nine = (3..).zip(over_first).fold(until(2), join);
+    [0, 1].map(|times| (16_383 + times, bits_of(&format!("{nine} W {}p1", next(times)))))
+}
+
 #[cfg(test)]
 mod tests {
     use super::*;
+    use crate::checks::until_like;
+    use crate::limits::Limits;
     use crate::steps::normal_words;
 
     #[test]
     fn forms_are_as_long_as_said() {
         for (form_words, words) in long_forms() {
-            assert_eq!(normal_words(&headed(&words)).expect("it has a form").len(), form_words);
+            assert_eq!(normal_words(&headed(&words), Limits::DESK).expect("it has a form").len(), form_words);
+        }
+        for (form_words, words) in long_forms_of_ten() {
+            assert_eq!(until_like(&words).len(), 10);
+            assert_eq!(normal_words(&headed(&words), Limits::HIGHEST).expect("it has a form").len(), form_words);
         }
     }
 }

@@ -10,6 +10,7 @@ pub mod dialect;
 pub mod edges;
 pub mod forest;
 pub mod header;
+pub mod limits;
 pub mod listing;
 pub mod normal;
 pub mod plain;

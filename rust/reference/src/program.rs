@@ -2,6 +2,7 @@
 use crate::checks::Refusal;
 use crate::forest::Forest;
 use crate::header::words;
+use crate::limits::Limits;
 use crate::steps::{form, text};
 use crate::text::{show, shown_bytes};
 
@@ -40,14 +41,14 @@ impl Run {
     fn form(&self) -> Result<Vec<u32>, Refusal> {
         let table = self.table()?;
         let (mut plain, mut result) = ([0; 131], [0; 4097]);
-        let length = form(&table, &mut plain, &mut result)?;
+        let length = form(&table, Limits::DESK, &mut plain, &mut result)?;
         Ok(result[..length].to_vec())
     }
 
     fn table(&self) -> Result<Vec<u32>, Refusal> {
         if self.text {
             let mut table = [0; 65];
-            let length = text(self.typed(), &mut table)?;
+            let length = text(self.typed(), Limits::DESK, &mut table)?;
             return Ok(table[..length].to_vec());
         }
         if !self.input.len().is_multiple_of(4) {

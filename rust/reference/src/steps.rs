@@ -1,10 +1,11 @@
 //! Every step as a desk calls it: the reply, and what each lent slice holds afterwards, refused calls included. Every table, handed in or
-//! made, has its header in front.
+//! made, has its header in front. The steps that make a written, a plain or a normal form take the limits of the house.
 use crate::checks::{fits, until_like, Faults, Refusal};
 use crate::class::Classes;
 use crate::dialect::convert;
 use crate::forest::Forest;
 use crate::header::{header, words};
+use crate::limits::Limits;
 use crate::listing::list;
 use crate::normal::normal as normal_tree;
 use crate::plain::Plain;
@@ -45,23 +46,25 @@ pub fn classify(table: &[u32], bytes: &mut [u8]) -> Result<(), Refusal> {
     Ok(())
 }
 
-/// The words of a rule typed as text (document 02, N1), by every check but 12: 20, then 19, then 2.
-pub fn text_words(text: &[u8]) -> Result<Vec<Word>, Refusal> {
+/// The words of a rule typed as text (document 02, N1), by every check but 12: 25, then 20, then 19, then 2.
+pub fn text_words(text: &[u8], limits: Limits) -> Result<Vec<Word>, Refusal> {
+    limits.permitted()?;
     if text.len() > 1_024 {
         return Err(Refusal { number: 20, place: 0 });
     }
     let mut forest = Forest::new();
     let rule = typed::read(&mut forest, text).map_err(|place| Refusal { number: 19, place })?;
     let words = list(&forest, rule);
-    if words.len() > 64 {
+    if words.len() > limits.written {
         return Err(Refusal { number: 2, place: 0 });
     }
     Ok(words)
 }
 
 /// The words of the plain form, by every check but 12.
-pub fn plain_words(table: &[u32]) -> Result<Vec<Word>, Refusal> {
-    check(table, false, 64)?;
+pub fn plain_words(table: &[u32], limits: Limits) -> Result<Vec<Word>, Refusal> {
+    limits.permitted()?;
+    check(table, false, limits.written)?;
     let mut forest = Forest::new();
     let trees = forest.of_words(words(table));
     let form = Plain::of(&mut forest, trees[trees.len() - 1]);
@@ -69,8 +72,9 @@ pub fn plain_words(table: &[u32]) -> Result<Vec<Word>, Refusal> {
 }
 
 /// The words of the normal form, by every check but 12.
-pub fn normal_words(table: &[u32]) -> Result<Vec<Word>, Refusal> {
-    Faults::default().table(table, true, 130).until_like(words(table)).first()?;
+pub fn normal_words(table: &[u32], limits: Limits) -> Result<Vec<Word>, Refusal> {
+    limits.permitted()?;
+    Faults::default().table(table, true, limits.plain()).until_like(words(table), limits.until_like).first()?;
     let mut forest = Forest::new();
     let trees = forest.of_words(words(table));
     let chosen: Vec<_> = until_like(words(table)).iter().map(|n| trees[n - 1]).collect();
@@ -98,16 +102,16 @@ pub fn write(words: Result<Vec<Word>, Refusal>, result: &mut [u32]) -> Result<us
     Ok(length)
 }
 
-pub fn text(text: &[u8], result: &mut [u32]) -> Result<usize, Refusal> {
-    write(text_words(text), result)
+pub fn text(text: &[u8], limits: Limits, result: &mut [u32]) -> Result<usize, Refusal> {
+    write(text_words(text, limits), result)
 }
 
-pub fn plain(table: &[u32], result: &mut [u32]) -> Result<usize, Refusal> {
-    write(plain_words(table), result)
+pub fn plain(table: &[u32], limits: Limits, result: &mut [u32]) -> Result<usize, Refusal> {
+    write(plain_words(table, limits), result)
 }
 
-pub fn normal(table: &[u32], result: &mut [u32]) -> Result<usize, Refusal> {
-    write(normal_words(table), result)
+pub fn normal(table: &[u32], limits: Limits, result: &mut [u32]) -> Result<usize, Refusal> {
+    write(normal_words(table, limits), result)
 }
 
 pub fn dialect(table: &[u32], result: &mut [u32]) -> Result<usize, Refusal> {
@@ -115,9 +119,9 @@ pub fn dialect(table: &[u32], result: &mut [u32]) -> Result<usize, Refusal> {
 }
 
 /// The whole way: the normal-form step is handed exactly the table that the plain-form step answered, its header too.
-pub fn form(table: &[u32], plain_room: &mut [u32], result: &mut [u32]) -> Result<usize, Refusal> {
-    let length = plain(table, plain_room)?;
-    normal(&plain_room[..length], result)
+pub fn form(table: &[u32], limits: Limits, plain_room: &mut [u32], result: &mut [u32]) -> Result<usize, Refusal> {
+    let length = plain(table, limits, plain_room)?;
+    normal(&plain_room[..length], limits, result)
 }
 
 /// The rows of all words, one after the other; the header has none.

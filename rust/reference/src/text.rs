@@ -146,6 +146,7 @@ pub fn shown_bytes(words: &[u32]) -> u128 {
 mod tests {
     use super::*;
     use crate::edges::{chain_of_ands, nested};
+    use crate::limits::Limits;
     use crate::listing::bits;
     use crate::steps::text_words;
     use crate::typed;
@@ -161,7 +162,7 @@ mod tests {
             let tree = *forest.of_words(&words).last().expect("a word");
             let shown = show(&forest, tree);
             assert_eq!(shown_bytes(&words), shown.len() as u128);
-            let read = text_words(shown.as_bytes()).expect("a rule");
+            let read = text_words(shown.as_bytes(), Limits::DESK).expect("a rule");
             assert_eq!(read.iter().map(|w| w.bits()).collect::<Vec<u32>>(), words);
             assert_eq!(bits(&forest, tree), words);
         }

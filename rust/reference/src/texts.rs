@@ -109,12 +109,14 @@ fn long() -> Vec<(&'static str, String)> {
 #[cfg(test)]
 mod tests {
     use super::*;
+    use crate::limits::Limits;
     use crate::steps::text_words;
 
     #[test]
     fn each_is_what_its_name_says() {
+        let read = |text: &str| text_words(text.as_bytes(), Limits::DESK);
         for (name, text) in long() {
-            let number = text_words(text.as_bytes()).map_or_else(|refusal| refusal.number, |_| 0);
+            let number = read(&text).map_or_else(|refusal| refusal.number, |_| 0);
             let bytes_said = name.split_once(" bytes").and_then(|(bytes, _)| bytes.parse::<usize>().ok());
             assert_eq!(bytes_said.unwrap_or(text.len()), text.len(), "{name}");
             let words_said = name.split_once(" words").map(|(words, _)| words.parse::<usize>().expect("a number"));
@@ -122,10 +124,10 @@ mod tests {
                 _ if text.len() > 1_024 => assert_eq!(number, 20, "{name}"),
                 _ if name.contains("then") || name.contains("no rule") => assert_eq!(number, 19, "{name}"),
                 Some(words) if words > 64 => assert_eq!(number, 2, "{name}"),
-                Some(words) => assert_eq!(text_words(text.as_bytes()).expect("a rule").len(), words, "{name}"),
+                Some(words) => assert_eq!(read(&text).expect("a rule").len(), words, "{name}"),
                 None => {}
             }
         }
-        assert!(broken().all(|text| text_words(text.as_bytes()).is_err_and(|refusal| refusal.number == 19)));
+        assert!(broken().all(|text| read(&text).is_err_and(|refusal| refusal.number == 19)));
     }
 }

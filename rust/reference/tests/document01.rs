@@ -1,12 +1,13 @@
 //! Document 01's "Rules on the desk" and "Misreadings to shut out", held to the reference itself. The tables have their header in front
 //! (document 02, N5).
 use reference::checks::Refusal;
+use reference::limits::Limits;
 use reference::recording::Recording;
 use reference::steps::*;
 
-fn made(step: impl Fn(&[u32], &mut [u32]) -> Result<usize, Refusal>, table: &[u32]) -> Vec<u32> {
+fn made(step: impl Fn(&[u32], Limits, &mut [u32]) -> Result<usize, Refusal>, table: &[u32]) -> Vec<u32> {
     let mut result = vec![7; 40];
-    let length = step(table, &mut result).expect("accepted");
+    let length = step(table, Limits::DESK, &mut result).expect("accepted");
     result[..length].to_vec()
 }
 

@@ -1,14 +1,15 @@
-//! Document 02's sentences about texts (N1), driven letters (N3), the dialect without W and M (N4) and the header (N5), held to the
-//! reference itself.
+//! Document 02's sentences about texts (N1), driven letters (N3), the dialect without W and M (N4), the header (N5) and the limits that a
+//! house sets (N6), held to the reference itself.
 use reference::checks::Refusal;
 use reference::edges::{chain_of, chain_of_next, headed};
+use reference::limits::Limits;
 use reference::recording::Recording;
 use reference::steps::{check, classify, dialect, form, judge, normal, plain, row, text, Tally};
 
 /// The table of a text, or its refusal's number and place, with so much room.
 fn read(typed: &str, room: usize) -> Result<Vec<u32>, (u32, usize)> {
     let mut result = vec![7; room];
-    let made = text(typed.as_bytes(), &mut result);
+    let made = text(typed.as_bytes(), Limits::DESK, &mut result);
     match made {
         Ok(words) => assert!(result[words..].iter().all(|&word| word == 7)),
         Err(Refusal { number: 12, .. }) => assert!(result.iter().all(|&word| word == 0)),
@@ -123,7 +124,7 @@ const ALWAYS: [u32; 3] = [0x0000_0002, 0x3000_0001, 0xE000_0001];
 #[test]
 fn always_is_listed_with_its_header() {
     let (mut plain, mut result) = ([7; 131], [7; 4_097]);
-    assert_eq!(form(&ALWAYS, &mut plain, &mut result), Ok(11));
+    assert_eq!(form(&ALWAYS, Limits::DESK, &mut plain, &mut result), Ok(11));
     assert_eq!(plain[..5], [0x001F_0003, 0x1000_0000, 0x3000_0001, 0xA000_4002, 7]);
     assert_eq!(result[..4], [0x0014_000A, 0x1000_0000, 0x3000_0001, 0xA000_4002]);
     assert_eq!(result[10..12], [0x6001_4009, 7]);
@@ -168,9 +169,9 @@ fn told<T>(answer: Result<T, Refusal>) -> (u32, usize) {
 #[test]
 fn headers_come_before_what_a_step_adds() {
     let wrong = [vec![0x0000_400B], chain_of(8, 9)].concat();
-    assert_eq!(told(normal(&wrong, &mut [])), (24, 0));
-    assert_eq!(told(normal(&headed(&chain_of(8, 9)), &mut [])), (11, 11));
-    assert_eq!(told(plain(&wrong, &mut [])), (24, 0));
+    assert_eq!(told(normal(&wrong, Limits::DESK, &mut [])), (24, 0));
+    assert_eq!(told(normal(&headed(&chain_of(8, 9)), Limits::DESK, &mut [])), (11, 11));
+    assert_eq!(told(plain(&wrong, Limits::DESK, &mut [])), (24, 0));
     assert_eq!(told(dialect(&wrong, &mut [])), (24, 0));
     assert_eq!(told(classify(&wrong, &mut [])), (24, 0));
     let none = Recording { samples: &[], start: 0, driven: 33 };
@@ -182,7 +183,7 @@ fn headers_come_before_what_a_step_adds() {
 fn rooms_hold_the_header_and_rows_and_bytes_leave_it_out() {
     for (room, told) in [(0, (12, 0)), (3, (12, 0)), (4, (0, 0))] {
         let mut result = vec![7; room];
-        assert_eq!(self::told(plain(&ALWAYS, &mut result)), told);
+        assert_eq!(self::told(plain(&ALWAYS, Limits::DESK, &mut result)), told);
         assert!(room == 4 || result.iter().all(|&word| word == 0));
     }
     // 16,383 words and the header
@@ -195,4 +196,60 @@ fn rooms_hold_the_header_and_rows_and_bytes_leave_it_out() {
     let recording = Recording { samples: &[0, 1], start: 1, driven: 1 };
     assert_eq!(row(&ALWAYS, recording, &mut scratch[..2]), Ok(1..2));
     assert_eq!(scratch, [0b10, 0b10, 7]);
+}
+
+/// N6: limits that a house sets.
+fn house(written: usize, until_like: usize) -> Limits {
+    Limits { written, until_like }
+}
+
+#[test]
+fn limits_outside_their_ranges_come_first() {
+    for (written, until_like) in [(0, 8), (257, 8), (usize::MAX, 8), (64, 11), (64, usize::MAX), (0, 11)] {
+        let limits = house(written, until_like);
+        let mut result = [7; 3];
+        // before 1 and 20, and so before every other
+        assert_eq!(told(plain(&[], limits, &mut result)), (25, 0));
+        assert_eq!(told(normal(&[], limits, &mut result)), (25, 0));
+        assert_eq!(told(form(&[], limits, &mut [], &mut result)), (25, 0));
+        assert_eq!(told(text(&[b' '; 1_025], limits, &mut result)), (25, 0));
+        assert_eq!(told(text(b"p1", limits, &mut [])), (25, 0));
+        assert_eq!(result, [7; 3]);
+    }
+    for (written, until_like) in [(1, 0), (1, 10), (256, 0), (256, 10)] {
+        let limits = house(written, until_like);
+        let (mut table, mut plain, mut result) = ([0; 2], [0; 2], [0; 2]);
+        assert_eq!(text(b"p1", limits, &mut table), Ok(2));
+        assert_eq!(form(&table, limits, &mut plain, &mut result), Ok(2));
+    }
+}
+
+#[test]
+fn the_house_limits_words() {
+    let nexts = |words: usize| headed(&chain_of_next(words));
+    for written in [1, 5, 64, 256] {
+        let limits = house(written, 0);
+        let mut result = vec![7; 600];
+        assert_eq!(plain(&nexts(written), limits, &mut result), Ok(1 + written));
+        assert_eq!(told(plain(&nexts(written + 1), limits, &mut result)), (2, 0));
+        let typed = |words: usize| format!("{}p1", "X".repeat(words - 1));
+        assert_eq!(text(typed(written).as_bytes(), limits, &mut result), Ok(1 + written));
+        assert_eq!(told(text(typed(written + 1).as_bytes(), limits, &mut result)), (2, 0));
+        assert_eq!(normal(&nexts(2 * written + 2), limits, &mut result), Ok(2 * written + 3));
+        assert_eq!(told(normal(&nexts(2 * written + 3), limits, &mut result)), (2, 0));
+    }
+}
+
+#[test]
+fn the_place_of_11_is_the_first_word_over_the_limit() {
+    for until_like in [0, 1, 8, 9, 10] {
+        for kind in 8..12 {
+            let table = headed(&chain_of(kind, 11));
+            assert_eq!(told(normal(&table, house(64, until_like), &mut [])), (11, until_like + 3));
+        }
+    }
+    assert_eq!(told(normal(&headed(&chain_of(9, 10)), house(64, 10), &mut vec![7; 4_097])), (0, 0));
+    // of the plain form, where a rule goes the whole way
+    let finally = [0x0000_0002, 0x3000_0001, 0xD000_0001];
+    assert_eq!(told(form(&finally, house(64, 0), &mut [7; 131], &mut [])), (11, 3));
 }

@@ -9,6 +9,8 @@ extern "C" {
     pub fn showrule_text(
         text: *const u8,
         bytes: usize,
+        written: usize,
+        until_like: usize,
         result: *mut u32,
         room: usize,
         table_length: *mut usize,
@@ -18,6 +20,8 @@ extern "C" {
     pub fn showrule_plain(
         table: *const u32,
         length: usize,
+        written: usize,
+        until_like: usize,
         result: *mut u32,
         room: usize,
         form_length: *mut usize,
@@ -27,6 +31,8 @@ extern "C" {
     pub fn showrule_normal(
         table: *const u32,
         length: usize,
+        written: usize,
+        until_like: usize,
         result: *mut u32,
         room: usize,
         form_length: *mut usize,
@@ -45,6 +51,8 @@ extern "C" {
     pub fn showrule_form(
         table: *const u32,
         length: usize,
+        written: usize,
+        until_like: usize,
         plain: *mut u32,
         plain_room: usize,
         result: *mut u32,

@@ -4,13 +4,15 @@
 //! the words, numbered from 1; documents 01 and 02 say what they mean. Every table that is handed over or back has its header. Every call
 //! takes slices that the caller lends, allocates nothing, and answers a `Result`: a [`Refusal`] has the documents' number and place, and
 //! says in a sentence what is wrong. What a slice holds after a call, refused or not, is said at each function. Only printing a table
-//! ([`to_text`]), and the error of a text ([`NotRead`]), which keeps the text, allocate.
+//! ([`to_text`]), and the error of a text ([`NotRead`]), which keeps the text, allocate. How many words and until-like words a rule may
+//! have is for the house to say ([`Limits`]).
 //!
 //! ```
+//! use showrule::Limits;
 //! // G p1: "letter 1, for ever".
 //! let table = [showrule::header(0, 2), 0x3000_0001, 0xE000_0001];
-//! let (mut plain, mut result) = ([0; showrule::PLAIN_ROOM], [0; 4097]);
-//! let form = showrule::form(&table, &mut plain, &mut result)?;
+//! let (mut plain, mut result) = ([0; Limits::DESK.plain_room()], [0; 4097]);
+//! let form = showrule::form(&table, Limits::DESK, &mut plain, &mut result)?;
 //! assert_eq!(form.len(), 11);
 //! // class 50, ten words
 //! assert_eq!((form[0], form[10]), (0x0014_000A, 0x6001_4009));
@@ -23,8 +25,8 @@
 //! ```
 //! let rule: showrule::Rule = "G(p1 -> Fp2)".parse()?;
 //! assert_eq!(*rule, [0x0000_0005, 0x3000_0001, 0x3000_0002, 0xD000_0002, 0xF000_4003, 0xE000_0004]);
-//! let mut result = [0; showrule::PLAIN_ROOM];
-//! let plain = showrule::plain_form(&rule, &mut result)?;
+//! let mut result = [0; showrule::Limits::DESK.plain_room()];
+//! let plain = showrule::plain_form(&rule, showrule::Limits::DESK, &mut result)?;
 //! assert_eq!(showrule::to_text(plain, 100)?, "(false R (!p1 | (true U p2)))");
 //!
 //! let error = "(p1 U p33)".parse::<showrule::Rule>().unwrap_err();
@@ -54,27 +56,19 @@
 
 #[allow(missing_docs)]
 pub mod ffi;
+mod limits;
 mod refusal;
 mod text;
 
+pub use limits::Limits;
 use refusal::Call;
 pub use refusal::{Refusal, Side};
 pub use text::{from_text, to_text, NotPrinted, NotRead, Rule};
 
 /// The most words that a table can have, beside its header: a field has 14 bits.
 pub const MOST_WORDS: usize = 16_383;
-/// The most words of a written table that goes into the plain-form step.
-pub const MOST_WRITTEN_WORDS: usize = 64;
-/// The most words of a plain table that goes into the normal-form step. A plain form never has more.
-pub const MOST_PLAIN_WORDS: usize = 130;
-/// The length of a slice that is always enough for the table of a text: 64 words and the header.
-pub const WRITTEN_ROOM: usize = 1 + MOST_WRITTEN_WORDS;
-/// The length of a slice that is always enough for a plain form: 130 words and the header.
-pub const PLAIN_ROOM: usize = 1 + MOST_PLAIN_WORDS;
 /// The length of a slice that is enough for any table: 16,383 words and the header. A longer slice counts for no more.
 pub const MOST_ROOM: usize = 1 + MOST_WORDS;
-/// The most until-like words (kinds 8 to 11) of a plain table that goes into the normal-form step.
-pub const MOST_UNTIL_LIKE: usize = 8;
 /// The most bytes of a text that is read.
 pub const MOST_TEXT_BYTES: usize = 1_024;
 /// The most samples of a recording.
@@ -161,37 +155,59 @@ pub fn classify(table: &[u32], bytes: &mut [u8]) -> Result<(), Refusal> {
     Call { table, limit: MOST_WORDS, room: bytes.len(), ..Call::default() }.answer(number, place)
 }
 
-/// The plain form of a written table of at most 64 words: the front part of `result`. What stands past it stays. Refused as 12, every
-/// word of the slice is 0; refused otherwise, it is as it was. 131 words are always enough.
+/// The plain form of a written table: the front part of `result`. What stands past it stays. Refused as 12, every word of the slice is 0;
+/// refused otherwise, it is as it was. [`Limits::plain_room`] is always enough.
 ///
 /// ```
+/// use showrule::Limits;
 /// let not_finally = [0x0000_0003, 0x3000_0001, 0xD000_0001, 0xC000_0002];
-/// let mut result = [0; showrule::PLAIN_ROOM];
-/// assert_eq!(showrule::plain_form(&not_finally, &mut result)?, [0x001F_0003, 0x1000_0000, 0x4000_0001, 0xA000_4002]);
+/// let mut result = [0; Limits::DESK.plain_room()];
+/// let plain = showrule::plain_form(&not_finally, Limits::DESK, &mut result)?;
+/// assert_eq!(plain, [0x001F_0003, 0x1000_0000, 0x4000_0001, 0xA000_4002]);
 /// # Ok::<(), showrule::Refusal>(())
 /// ```
-pub fn plain_form<'a>(table: &[u32], result: &'a mut [u32]) -> Result<&'a [u32], Refusal> {
+pub fn plain_form<'a>(table: &[u32], limits: Limits, result: &'a mut [u32]) -> Result<&'a [u32], Refusal> {
     let (mut length, mut place) = (0, 0);
-    let number =
-        unsafe { ffi::showrule_plain(table.as_ptr(), table.len(), result.as_mut_ptr(), result.len(), &mut length, &mut place) };
-    Call { table, limit: MOST_WRITTEN_WORDS, room: result.len(), ..Call::default() }.answer(number, place)?;
+    let number = unsafe {
+        ffi::showrule_plain(
+            table.as_ptr(),
+            table.len(),
+            limits.written,
+            limits.until_like,
+            result.as_mut_ptr(),
+            result.len(),
+            &mut length,
+            &mut place,
+        )
+    };
+    Call { table, limits, limit: limits.written, room: result.len(), ..Call::default() }.answer(number, place)?;
     Ok(&result[..length])
 }
 
-/// The normal form of a plain table of at most 130 words, 8 of them until-like: the front part of `result`. What stands past it
-/// stays. Refused as 12, every word of the slice is 0; refused otherwise, it is as it was.
+/// The normal form of a plain table, of at most [`Limits::plain_words`] words: the front part of `result`. What stands past it stays.
+/// Refused as 12, every word of the slice is 0; refused otherwise, it is as it was.
 ///
 /// ```
 /// let finally = [0x001E_8003, 0x2000_0000, 0x3000_0001, 0x8000_4002];
 /// let mut result = [0; 4097];
-/// assert_eq!(showrule::normal_form(&finally, &mut result)?.len(), 9);
+/// assert_eq!(showrule::normal_form(&finally, showrule::Limits::DESK, &mut result)?.len(), 9);
 /// # Ok::<(), showrule::Refusal>(())
 /// ```
-pub fn normal_form<'a>(table: &[u32], result: &'a mut [u32]) -> Result<&'a [u32], Refusal> {
+pub fn normal_form<'a>(table: &[u32], limits: Limits, result: &'a mut [u32]) -> Result<&'a [u32], Refusal> {
     let (mut length, mut place) = (0, 0);
-    let number =
-        unsafe { ffi::showrule_normal(table.as_ptr(), table.len(), result.as_mut_ptr(), result.len(), &mut length, &mut place) };
-    Call { table, limit: MOST_PLAIN_WORDS, room: result.len(), ..Call::default() }.answer(number, place)?;
+    let number = unsafe {
+        ffi::showrule_normal(
+            table.as_ptr(),
+            table.len(),
+            limits.written,
+            limits.until_like,
+            result.as_mut_ptr(),
+            result.len(),
+            &mut length,
+            &mut place,
+        )
+    };
+    Call { table, limits, limit: limits.plain_words(), room: result.len(), ..Call::default() }.answer(number, place)?;
     Ok(&result[..length])
 }
 
@@ -226,17 +242,24 @@ pub fn dialect<'a>(table: &[u32], result: &'a mut [u32]) -> Result<&'a [u32], Re
 /// table.extend((1..=9).map(|n| 0xD000_0000 + n));
 /// table.push(0x5000_0000 + (10 << 14) + 11);
 /// table.extend((12..=18).map(|n| 0x5000_0000 + ((n + 7) << 14) + n));
-/// let (mut plain, mut result) = ([0; showrule::PLAIN_ROOM], [0; 4097]);
-/// let refusal = showrule::form(&table, &mut plain, &mut result).unwrap_err();
+/// let limits = showrule::Limits { written: 64, until_like: 8 };
+/// let (mut plain, mut result) = ([0; 131], [0; 4097]);
+/// let refusal = showrule::form(&table, limits, &mut plain, &mut result).unwrap_err();
 /// assert_eq!(refusal.number(), 11);
-/// assert!(refusal.to_string().contains("of the plain form is the ninth until-like word"));
+/// assert!(refusal.to_string().contains("of the plain form is the first until-like word over the limit of 8"));
+///
+/// // a house that allows nine
+/// let limits = showrule::Limits { until_like: 9, ..limits };
+/// assert!(showrule::form(&table, limits, &mut plain, &mut result).is_ok());
 /// ```
-pub fn form<'a>(table: &[u32], plain: &mut [u32], result: &'a mut [u32]) -> Result<&'a [u32], Refusal> {
+pub fn form<'a>(table: &[u32], limits: Limits, plain: &mut [u32], result: &'a mut [u32]) -> Result<&'a [u32], Refusal> {
     let (mut length, mut place) = (0, 0);
     let number = unsafe {
         ffi::showrule_form(
             table.as_ptr(),
             table.len(),
+            limits.written,
+            limits.until_like,
             plain.as_mut_ptr(),
             plain.len(),
             result.as_mut_ptr(),
@@ -248,7 +271,7 @@ pub fn form<'a>(table: &[u32], plain: &mut [u32], result: &'a mut [u32]) -> Resu
     // a plain form that was made begins with its header, which is not 0
     let plain_made = plain.first().is_some_and(|&word| word != 0);
     let room = if plain_made { result.len() } else { plain.len() };
-    Call { table, limit: MOST_WRITTEN_WORDS, room, of_plain_form: true, ..Call::default() }.answer(number, place)?;
+    Call { table, limits, limit: limits.written, room, of_plain_form: true, ..Call::default() }.answer(number, place)?;
     Ok(&result[..length])
 }
 

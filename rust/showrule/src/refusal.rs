@@ -1,5 +1,5 @@
 //! Why a call is refused: its number and place in the documents, and a sentence that says what to look at.
-use crate::{scratch_words, words_of, Tally, MOST_DRIVEN, MOST_SAMPLES, MOST_TEXT_BYTES, MOST_UNTIL_LIKE, MOST_WRITTEN_WORDS};
+use crate::{scratch_words, words_of, Limits, Tally, MOST_DRIVEN, MOST_SAMPLES, MOST_TEXT_BYTES};
 use std::fmt;
 
 /// A field of a word.
@@ -58,8 +58,10 @@ pub enum Refusal {
     Unused {
         place: usize,
     },
+    /// The word is the first over the limit.
     TooManyUntilLike {
         place: usize,
+        limit: usize,
         of_plain_form: bool,
     },
     ResultTooShort {
@@ -82,7 +84,9 @@ pub enum Refusal {
         held: u32,
     },
     /// The table of a text would have too many words: 2, as for a table.
-    TextOfTooManyWords,
+    TextOfTooManyWords {
+        limit: usize,
+    },
     /// The text is no rule, whatever came after its byte of this number, counted from 1, or as far as it goes.
     NoRule {
         place: usize,
@@ -111,6 +115,10 @@ pub enum Refusal {
         class: u32,
         written: bool,
     },
+    /// A limit is outside its range.
+    LimitsOutside {
+        limits: Limits,
+    },
     /// A number that this crate does not know.
     Other {
         number: u32,
@@ -123,6 +131,7 @@ pub enum Refusal {
 pub(crate) struct Call<'a> {
     pub table: &'a [u32],
     pub text: Option<&'a [u8]>,
+    pub limits: Limits,
     pub limit: usize,
     pub room: usize,
     pub samples: usize,
@@ -150,7 +159,7 @@ impl Call<'_> {
         let two_sided = matches!(kind, 5 | 6 | 8..=11 | 15);
         match number {
             1 => Refusal::NoWord { empty: self.table.is_empty() },
-            2 if self.text.is_some() => Refusal::TextOfTooManyWords,
+            2 if self.text.is_some() => Refusal::TextOfTooManyWords { limit: self.limit },
             2 => Refusal::TooManyWords { words: right as usize, limit: self.limit },
             3 => Refusal::KindZero { place },
             4 => Refusal::NotPlain { place, kind },
@@ -162,7 +171,7 @@ impl Call<'_> {
             8 => Refusal::FieldNotZero { place, side: Side::Right, value: right },
             9 => Refusal::Repeated { place, earlier: words.iter().position(|&w| w == word).map_or(0, |i| i + 1) },
             10 => Refusal::Unused { place },
-            11 => Refusal::TooManyUntilLike { place, of_plain_form: self.of_plain_form },
+            11 => Refusal::TooManyUntilLike { place, limit: self.limits.until_like, of_plain_form: self.of_plain_form },
             12 => Refusal::ResultTooShort { room: self.room },
             13 => Refusal::NoSample,
             14 => Refusal::TooManySamples { samples: self.samples },
@@ -175,6 +184,7 @@ impl Call<'_> {
             22 => Refusal::TooManyDriven { driven: self.driven },
             23 => Refusal::CountDiffers { count: right as usize, words: words.len() },
             24 => Refusal::WrongHeader { kind, class: left, written: words.iter().any(|word| word >> 28 >= 12) },
+            25 => Refusal::LimitsOutside { limits: self.limits },
             _ => Refusal::Other { number, place },
         }
     }
@@ -185,7 +195,7 @@ impl Refusal {
     pub fn number(&self) -> u32 {
         match *self {
             Refusal::NoWord { .. } => 1,
-            Refusal::TooManyWords { .. } | Refusal::TextOfTooManyWords => 2,
+            Refusal::TooManyWords { .. } | Refusal::TextOfTooManyWords { .. } => 2,
             Refusal::KindZero { .. } => 3,
             Refusal::NotPlain { .. } => 4,
             Refusal::OperandZero { .. } => 5,
@@ -207,6 +217,7 @@ impl Refusal {
             Refusal::TooManyDriven { .. } => 22,
             Refusal::CountDiffers { .. } => 23,
             Refusal::WrongHeader { .. } => 24,
+            Refusal::LimitsOutside { .. } => 25,
             Refusal::Other { number, .. } => number,
         }
     }
@@ -268,9 +279,9 @@ impl fmt::Display for Refusal {
             Refusal::Unused { place } => {
                 write!(f, "word {place} is used by no other word and is not the last: use it, or leave it out")
             }
-            Refusal::TooManyUntilLike { place, of_plain_form } => {
+            Refusal::TooManyUntilLike { place, limit, of_plain_form } => {
                 let of = if of_plain_form { " of the plain form" } else { "" };
-                write!(f, "word {place}{of} is the ninth until-like word, and a rule may have {MOST_UNTIL_LIKE}: split the rule")
+                write!(f, "word {place}{of} is the first until-like word over the limit of {limit}: split the rule")
             }
             Refusal::ResultTooShort { room } => write!(f, "the result does not fit the slice of {room} that was lent for it"),
             Refusal::NoSample => write!(f, "the recording has no sample"),
@@ -287,8 +298,8 @@ impl fmt::Display for Refusal {
                 write!(f, "the tally has {held} held of {judged} judged: it is damaged")
             }
             Refusal::TallyFull { judged, .. } => write!(f, "the tally is full: {judged} judgements are counted"),
-            Refusal::TextOfTooManyWords => {
-                write!(f, "the table of the text has over {MOST_WRITTEN_WORDS} words: make the rule shorter")
+            Refusal::TextOfTooManyWords { limit } => {
+                write!(f, "the table of the text has more words than the limit of {limit}: make the rule shorter")
             }
             Refusal::NoRule { place, ends_early: false } => {
                 write!(f, "no rule begins as the text does up to its byte {place}")
@@ -322,6 +333,14 @@ impl fmt::Display for Refusal {
             }
             Refusal::WrongHeader { class, .. } => {
                 write!(f, "the header has class {class:02X}, which is not the class byte of the last word")
+            }
+            Refusal::LimitsOutside { limits } if !(1..=Limits::HIGHEST.written).contains(&limits.written) => {
+                let (written, most) = (limits.written, Limits::HIGHEST.written);
+                write!(f, "the limit on written words is {written}, and a house may set 1 to {most}")
+            }
+            Refusal::LimitsOutside { limits } => {
+                let (until_like, most) = (limits.until_like, Limits::HIGHEST.until_like);
+                write!(f, "the limit on until-like words is {until_like}, and a house may set 0 to {most}")
             }
             Refusal::Other { number, place } => write!(f, "refused {number} at {place}"),
         }

@@ -1,6 +1,6 @@
 //! Rules typed as text and printed as text.
 use crate::refusal::Call;
-use crate::{check, ffi, words_of, Refusal, MOST_WORDS, WRITTEN_ROOM};
+use crate::{check, ffi, words_of, Limits, Refusal, MOST_WORDS};
 use std::fmt;
 use std::ops::Deref;
 use std::str::FromStr;
@@ -8,25 +8,37 @@ use std::str::FromStr;
 /// The written table of a text: the front part of `result`. What stands past it stays. The text is a rule of `true`, `false`, `p1` to
 /// `p32`, the prefixes `! X F G`, and `& | -> U W R M` between two rules, always in round brackets; only spaces may stand round these,
 /// so that a line end is no part of a text. Words are numbered by first need, an identical word used again. Refused as 12, every word
-/// of the slice is 0; refused otherwise, it is as it was. 65 words are always enough.
+/// of the slice is 0; refused otherwise, it is as it was. [`Limits::written_room`] is always enough.
 ///
 /// ```
-/// let mut result = [0; showrule::WRITTEN_ROOM];
-/// assert_eq!(showrule::from_text(b"(p1 U !p1)", &mut result)?, [0x0000_0003, 0x3000_0001, 0xC000_0001, 0x8000_4002]);
-/// let refusal = showrule::from_text(b"p1 U p2", &mut result).unwrap_err();
+/// use showrule::{from_text, Limits};
+/// let mut result = [0; Limits::DESK.written_room()];
+/// let table = from_text(b"(p1 U !p1)", Limits::DESK, &mut result)?;
+/// assert_eq!(table, [0x0000_0003, 0x3000_0001, 0xC000_0001, 0x8000_4002]);
+/// let refusal = from_text(b"p1 U p2", Limits::DESK, &mut result).unwrap_err();
 /// assert_eq!((refusal.number(), refusal.place()), (19, 4));
 /// # Ok::<(), showrule::Refusal>(())
 /// ```
-pub fn from_text<'a>(text: &[u8], result: &'a mut [u32]) -> Result<&'a [u32], Refusal> {
+pub fn from_text<'a>(text: &[u8], limits: Limits, result: &'a mut [u32]) -> Result<&'a [u32], Refusal> {
     let (mut length, mut place) = (0, 0);
-    let number =
-        unsafe { ffi::showrule_text(text.as_ptr(), text.len(), result.as_mut_ptr(), result.len(), &mut length, &mut place) };
-    Call { text: Some(text), room: result.len(), ..Call::default() }.answer(number, place)?;
+    let number = unsafe {
+        ffi::showrule_text(
+            text.as_ptr(),
+            text.len(),
+            limits.written,
+            limits.until_like,
+            result.as_mut_ptr(),
+            result.len(),
+            &mut length,
+            &mut place,
+        )
+    };
+    Call { text: Some(text), limits, limit: limits.written, room: result.len(), ..Call::default() }.answer(number, place)?;
     Ok(&result[..length])
 }
 
-/// A written table of at most 64 words, read from a text with `parse`. It is its header and words wherever a table is asked for, and
-/// prints as text.
+/// A written table of at most 256 words, read from a text: with `parse` under the limits of the program, or under others with
+/// [`Rule::read`]. It is its header and words wherever a table is asked for, and prints as text.
 ///
 /// ```
 /// let rule: showrule::Rule = "  ( p1 & Xp1 )".parse()?;
@@ -36,19 +48,34 @@ pub fn from_text<'a>(text: &[u8], result: &'a mut [u32]) -> Result<&'a [u32], Re
 /// ```
 #[derive(Clone, Copy)]
 pub struct Rule {
-    table: [u32; WRITTEN_ROOM],
+    table: [u32; Limits::HIGHEST.written_room()],
     length: usize,
+}
+
+impl Rule {
+    /// The rule of a text, under the limits of a house.
+    ///
+    /// ```
+    /// use showrule::{Limits, Rule};
+    /// let small = Limits { written: 3, until_like: 1 };
+    /// assert_eq!(Rule::read("(p1 U p2)", small)?.len(), 4);
+    /// assert_eq!(Rule::read("X(p1 U p2)", small).unwrap_err().refusal().number(), 2);
+    /// # Ok::<(), showrule::NotRead>(())
+    /// ```
+    pub fn read(text: &str, limits: Limits) -> Result<Rule, NotRead> {
+        let mut table = [0; Limits::HIGHEST.written_room()];
+        match from_text(text.as_bytes(), limits, &mut table).map(|made| made.len()) {
+            Ok(length) => Ok(Rule { table, length }),
+            Err(refusal) => Err(NotRead { refusal, text: text.into() }),
+        }
+    }
 }
 
 impl FromStr for Rule {
     type Err = NotRead;
 
     fn from_str(text: &str) -> Result<Rule, NotRead> {
-        let mut table = [0; WRITTEN_ROOM];
-        match from_text(text.as_bytes(), &mut table).map(|made| made.len()) {
-            Ok(length) => Ok(Rule { table, length }),
-            Err(refusal) => Err(NotRead { refusal, text: text.into() }),
-        }
+        Rule::read(text, Limits::DESK)
     }
 }
 

@@ -11,16 +11,16 @@ fn empty_slices() {
         assert_eq!((showrule_check(null(), 0, false, 64, &mut place), place), (1, 0));
         assert_eq!(showrule_classify(null(), 0, null_mut(), 0, &mut place), 1);
         assert_eq!(showrule_classify(letter.as_ptr(), 2, null_mut(), 0, &mut place), 12);
-        assert_eq!((showrule_text(null(), 0, null_mut(), 0, &mut words, &mut place), words, place), (19, 0, 1));
-        assert_eq!((showrule_text(b"p1".as_ptr(), 2, null_mut(), 0, &mut words, &mut place), words, place), (12, 0, 0));
-        assert_eq!(showrule_plain(null(), 0, null_mut(), 0, &mut words, &mut place), 1);
-        assert_eq!(showrule_plain(letter.as_ptr(), 2, null_mut(), 0, &mut words, &mut place), 12);
-        assert_eq!(showrule_normal(letter.as_ptr(), 2, null_mut(), 0, &mut words, &mut place), 12);
+        assert_eq!((showrule_text(null(), 0, 64, 8, null_mut(), 0, &mut words, &mut place), words, place), (19, 0, 1));
+        assert_eq!((showrule_text(b"p1".as_ptr(), 2, 64, 8, null_mut(), 0, &mut words, &mut place), words, place), (12, 0, 0));
+        assert_eq!(showrule_plain(null(), 0, 64, 8, null_mut(), 0, &mut words, &mut place), 1);
+        assert_eq!(showrule_plain(letter.as_ptr(), 2, 64, 8, null_mut(), 0, &mut words, &mut place), 12);
+        assert_eq!(showrule_normal(letter.as_ptr(), 2, 64, 8, null_mut(), 0, &mut words, &mut place), 12);
         assert_eq!((showrule_dialect(null(), 0, null_mut(), 0, &mut words, &mut place), words, place), (1, 0, 0));
         assert_eq!((showrule_dialect(letter.as_ptr(), 2, null_mut(), 0, &mut words, &mut place), words, place), (12, 0, 0));
-        assert_eq!(showrule_form(letter.as_ptr(), 2, null_mut(), 0, null_mut(), 0, &mut words, &mut place), 12);
+        assert_eq!(showrule_form(letter.as_ptr(), 2, 64, 8, null_mut(), 0, null_mut(), 0, &mut words, &mut place), 12);
         let mut plain = [0u32; 2];
-        assert_eq!(showrule_form(letter.as_ptr(), 2, plain.as_mut_ptr(), 2, null_mut(), 0, &mut words, &mut place), 12);
+        assert_eq!(showrule_form(letter.as_ptr(), 2, 64, 8, plain.as_mut_ptr(), 2, null_mut(), 0, &mut words, &mut place), 12);
         assert_eq!((plain, words, place), (letter, 0, 0));
         let number = showrule_judge(
             letter.as_ptr(),

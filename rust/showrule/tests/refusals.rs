@@ -1,5 +1,7 @@
 //! Every refusal of a table, a form and a recording: its number, its place and its sentence.
-use showrule::{check, classify, dialect, form, judge, normal_form, plain_form, row, Recording, Refusal, Tally};
+use showrule::{
+    check, classify, dialect, form, from_text, judge, normal_form, plain_form, row, Limits, Recording, Refusal, Tally,
+};
 
 fn is<T: std::fmt::Debug>(answer: Result<T, Refusal>, number: u32, place: usize, sentence: &str) {
     let refusal = answer.expect_err("it is refused");
@@ -56,25 +58,56 @@ fn headers() {
 #[test]
 fn forms() {
     is(
-        normal_form(&ALWAYS, &mut [0; 9]),
+        normal_form(&ALWAYS, Limits::DESK, &mut [0; 9]),
         4,
         2,
         "word 2 is of kind 14, which a plain table does not have: make the plain form first",
     );
     is(classify(&[0x001F_C001, 0x3000_0001], &mut []), 12, 0, "the result does not fit the slice of 0 that was lent for it");
-    is(plain_form(&ALWAYS, &mut [7; 3]), 12, 0, "the result does not fit the slice of 3 that was lent for it");
-    is(form(&ALWAYS, &mut [7; 3], &mut [7; 20]), 12, 0, "the result does not fit the slice of 3 that was lent for it");
-    is(form(&ALWAYS, &mut [7; 4], &mut [7; 10]), 12, 0, "the result does not fit the slice of 10 that was lent for it");
-    assert_eq!(form(&ALWAYS, &mut [7; 4], &mut [7; 11]).map(|form| form.len()), Ok(11));
-    let mut nine = vec![0x001E_800B, 0x3000_0001, 0x3000_0002];
-    nine.extend((1..=9).map(|n| 0x8000_0000 + ((if n == 1 { 1 } else { n + 1 }) << 14) + 2));
-    is(normal_form(&nine, &mut [0; 9]), 11, 11, "word 11 is the ninth until-like word, and a rule may have 8: split the rule");
+    is(plain_form(&ALWAYS, Limits::DESK, &mut [7; 3]), 12, 0, "the result does not fit the slice of 3 that was lent for it");
+    let form = |plain: &mut [u32], result: &mut [u32]| form(&ALWAYS, Limits::DESK, plain, result).map(|form| form.len());
+    is(form(&mut [7; 3], &mut [7; 20]), 12, 0, "the result does not fit the slice of 3 that was lent for it");
+    is(form(&mut [7; 4], &mut [7; 10]), 12, 0, "the result does not fit the slice of 10 that was lent for it");
+    assert_eq!(form(&mut [7; 4], &mut [7; 11]), Ok(11));
+}
+
+#[test]
+fn limits() {
+    let house = |written, until_like| Limits { written, until_like };
+    let mut eleven = vec![0x001E_800D, 0x3000_0001, 0x3000_0002];
+    eleven.extend((1..=11).map(|n| 0x8000_0000 + ((if n == 1 { 1 } else { n + 1 }) << 14) + 2));
+    for (until_like, place) in [(0, 3), (8, 11), (10, 13)] {
+        let first = format!("is the first until-like word over the limit of {until_like}: split the rule");
+        let limits = house(64, until_like);
+        is(normal_form(&eleven, limits, &mut [0; 9]), 11, place, &format!("word {place} {first}"));
+        let of_plain_form = format!("word {place} of the plain form {first}");
+        is(form(&eleven, limits, &mut [0; 131], &mut [0; 9]), 11, place, &of_plain_form);
+    }
+    let too_many =
+        |words, limit| format!("the table has {words} words, and this step takes at most {limit}: make the rule shorter");
+    is(plain_form(&eleven, house(12, 0), &mut []), 2, 0, &too_many(13, 12));
+    is(form(&eleven, house(12, 0), &mut [], &mut []), 2, 0, &too_many(13, 12));
+    is(normal_form(&eleven, house(5, 0), &mut []), 2, 0, &too_many(13, 12));
     is(
-        form(&nine, &mut [0; 131], &mut [0; 9]),
-        11,
-        11,
-        "word 11 of the plain form is the ninth until-like word, and a rule may have 8: split the rule",
+        from_text(b"Xp1", house(1, 0), &mut []),
+        2,
+        0,
+        "the table of the text has more words than the limit of 1: make the rule shorter",
     );
+    // before every other refusal, and of a text too
+    let outside = [
+        (house(0, 8), "the limit on written words is 0, and a house may set 1 to 256"),
+        (house(257, 11), "the limit on written words is 257, and a house may set 1 to 256"),
+        (house(256, 11), "the limit on until-like words is 11, and a house may set 0 to 10"),
+        (house(usize::MAX, 0), "the limit on written words is 18446744073709551615, and a house may set 1 to 256"),
+        (house(1, usize::MAX), "the limit on until-like words is 18446744073709551615, and a house may set 0 to 10"),
+    ];
+    for (limits, sentence) in outside {
+        is(plain_form(&[], limits, &mut []), 25, 0, sentence);
+        is(normal_form(&[], limits, &mut []), 25, 0, sentence);
+        is(form(&[], limits, &mut [], &mut []), 25, 0, sentence);
+        is(from_text(&[b' '; 1_025], limits, &mut []), 25, 0, sentence);
+    }
 }
 
 /// A recording that drives letter 1.

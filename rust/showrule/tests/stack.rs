@@ -1,5 +1,5 @@
 //! A thread with 512 KB of stack is enough for every call but `dialect`, and one with 1 MB for that, as include/showrule.h says: the longest
-//! tables, the deepest ones, and eight until-like words.
+//! tables, and under the highest limits the deepest ones and ten until-like words.
 use showrule::*;
 
 fn on_small_stack(work: impl FnOnce() + Send + 'static) {
@@ -11,24 +11,26 @@ fn on_stack(size: usize, work: impl FnOnce() + Send + 'static) {
     std::thread::Builder::new().stack_size(size << 10).spawn(work).expect("a thread").join().expect("it ends well");
 }
 
-/// Letter 1, then a word over the one before, on both sides where it has two operands.
-fn chain(words: u32, kind: u32) -> Vec<u32> {
-    let both = matches!(kind, 5 | 6 | 8..=11 | 15) as u32;
-    let class = match kind {
-        5 | 6 => 0x7F,
-        7 => 0x7E,
-        8 | 11 => 0x7A,
-        9 | 10 => 0x7C,
+/// Letter 1, then a word of each kind over the one before, on both sides where it has two operands. Beside X there is only one kind.
+fn chain(kinds: &[u32]) -> Vec<u32> {
+    let class = match kinds.iter().find(|&&kind| kind != 7) {
+        None => 0x7E,
+        Some(5 | 6) => 0x7F,
+        Some(8 | 11) => 0x7A,
+        Some(9 | 10) => 0x7C,
         _ => 0,
     };
-    let mut table = vec![header(class, words as usize), 0x3000_0001];
-    table.extend((1..words).map(|n| (kind << 28) + both * (n << 14) + n));
-    table
+    let word = |(n, &kind): (u32, &u32)| {
+        let both = matches!(kind, 5 | 6 | 8..=11 | 15) as u32;
+        (kind << 28) + both * (n << 14) + n
+    };
+    let letter = [header(class, 1 + kinds.len()), 0x3000_0001];
+    letter.into_iter().chain((1..).zip(kinds).map(word)).collect()
 }
 
 #[test]
 fn longest_tables() {
-    let table = chain(16_383, 7);
+    let table = chain(&[7; 16_382]);
     let samples = vec![1; 4_096];
     let (mut bytes, mut scratch) = (vec![0; 16_383], vec![0; scratch_words(16_383, 4_096)]);
     on_small_stack(move || {
@@ -42,11 +44,11 @@ fn longest_tables() {
 
 #[test]
 fn longest_conversions() {
-    let (next, mut result) = (chain(16_383, 7), vec![0; MOST_ROOM]);
+    let (next, mut result) = (chain(&[7; 16_382]), vec![0; MOST_ROOM]);
     on_stack(1_024, move || assert_eq!(dialect(&next, &mut result).unwrap(), next));
     for kind in [9, 11] {
         // a word over itself is two words of the dialect
-        let (table, mut result) = (chain(8_192, kind), vec![0; 16_385]);
+        let (table, mut result) = (chain(&[kind; 8_191]), vec![0; 16_385]);
         on_stack(1_024, move || {
             assert_eq!(dialect(&table, &mut result).unwrap().len(), 16_384);
             assert_eq!(dialect(&table, &mut result[..16_383]), Err(Refusal::ResultTooShort { room: 16_383 }));
@@ -57,10 +59,10 @@ fn longest_conversions() {
 #[test]
 fn deepest_rules() {
     for kind in [5, 7, 12, 15] {
-        let table = chain(64, kind);
-        let (mut plain, mut result) = (vec![0; PLAIN_ROOM], vec![0; MOST_ROOM]);
+        let table = chain(&[kind; 255]);
+        let (mut plain, mut result) = (vec![0; Limits::HIGHEST.plain_room()], vec![0; MOST_ROOM]);
         on_small_stack(move || {
-            form(&table, &mut plain, &mut result).unwrap();
+            form(&table, Limits::HIGHEST, &mut plain, &mut result).unwrap();
         });
     }
 }
@@ -70,24 +72,24 @@ fn deepest_texts() {
     let brackets = format!("{}p1{}", "(".repeat(170), "&p1)".repeat(170));
     let prefixes = format!("{}p1", "X".repeat(1_022));
     on_small_stack(move || {
-        assert_eq!(from_text(brackets.as_bytes(), &mut [0; WRITTEN_ROOM]), Err(Refusal::TextOfTooManyWords));
-        assert_eq!(from_text(prefixes.as_bytes(), &mut [0; WRITTEN_ROOM]), Err(Refusal::TextOfTooManyWords));
-        assert_eq!(from_text(&[b'('; 1_024], &mut [0; WRITTEN_ROOM]).unwrap_err().place(), 1_025);
-        assert_eq!(to_text(&chain(16_383, 7), 20_000).unwrap().len(), 16_384);
+        let length = |text: &[u8]| from_text(text, Limits::HIGHEST, &mut [0; 257]).map(|table| table.len());
+        assert_eq!(length(brackets.as_bytes()), Ok(172));
+        assert_eq!(length(prefixes.as_bytes()), Err(Refusal::TextOfTooManyWords { limit: 256 }));
+        assert_eq!(length(&prefixes.as_bytes()[767..]), Ok(257));
+        assert_eq!(length(&[b'('; 1_024]).unwrap_err().place(), 1_025);
+        assert_eq!(to_text(&chain(&[7; 16_382]), 20_000).unwrap().len(), 16_384);
     });
 }
 
 #[test]
-fn eight_until_like_words_under_a_deep_rule() {
+fn ten_until_like_words_under_and_over_a_deep_rule() {
     for kind in [8, 9, 10, 11] {
-        let mut table = chain(9, kind);
-        table.extend((9..130).map(|n| 0x7000_0000 + n));
-        // X keeps the class
-        table[0] += 130 - 9;
-        let mut result = vec![0; MOST_ROOM];
-        on_small_stack(move || match normal_form(&table, &mut result) {
-            Ok(form) => assert!(form.len() > 130),
-            Err(refusal) => assert_eq!(refusal.number(), 12),
-        });
+        for kinds in [[[kind; 10].to_vec(), vec![7; 503]], [vec![7; 503], [kind; 10].to_vec()]] {
+            let (table, mut result) = (chain(&kinds.concat()), vec![0; MOST_ROOM]);
+            on_small_stack(move || match normal_form(&table, Limits::HIGHEST, &mut result) {
+                Ok(form) => assert!(form.len() > 514),
+                Err(refusal) => assert_eq!(refusal.number(), 12),
+            });
+        }
     }
 }

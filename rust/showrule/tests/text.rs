@@ -1,5 +1,5 @@
 //! Rules typed as text and printed as text, and what a text that is not read says.
-use showrule::{form, from_text, header, to_text, NotPrinted, Refusal, Rule};
+use showrule::{form, from_text, header, to_text, Limits, NotPrinted, Refusal, Rule};
 
 /// What an error prints, and its refusal's number and place.
 fn not_read(text: &str) -> (u32, usize, String) {
@@ -18,9 +18,9 @@ fn rules() {
     let every = "((true U false) & ((p1 W p32) | ((Xp2 R Fp3) -> (G!p4 M !!p5))))";
     assert_eq!(every.parse::<Rule>().unwrap().to_string(), every);
     let (mut plain, mut result) = ([0; 131], [0; 4097]);
-    let of_text = form(&rule, &mut plain, &mut result).unwrap().to_vec();
+    let of_text = form(&rule, Limits::DESK, &mut plain, &mut result).unwrap().to_vec();
     let table = [0x0000_0005, 0x3000_0002, 0xD000_0001, 0x3000_0001, 0xF000_C002, 0xE000_0004];
-    assert_eq!(form(&table, &mut plain, &mut result).unwrap(), of_text);
+    assert_eq!(form(&table, Limits::DESK, &mut plain, &mut result).unwrap(), of_text);
 }
 
 #[test]
@@ -61,10 +61,14 @@ fn refusals() {
     assert_eq!(not_read(&long), (20, 0, "the text has 1025 bytes, and at most 1024 are read".into()));
     assert!(long[..1_024].parse::<Rule>().is_ok());
     let many = format!("{}p1", "X".repeat(64));
-    assert_eq!(not_read(&many), (2, 0, "the table of the text has over 64 words: make the rule shorter".into()));
+    assert_eq!(
+        not_read(&many),
+        (2, 0, "the table of the text has more words than the limit of 64: make the rule shorter".into())
+    );
     assert_eq!(not_read(&format!("{many})")).0, 19);
+    let from_text = |text, result: &mut [u32]| from_text(text, Limits::DESK, result).map(|table| table.to_vec());
     let mut result = [7; 20];
-    assert_eq!(from_text(many.as_bytes(), &mut result), Err(Refusal::TextOfTooManyWords));
+    assert_eq!(from_text(many.as_bytes(), &mut result), Err(Refusal::TextOfTooManyWords { limit: 64 }));
     assert_eq!(from_text(b"p", &mut result), Err(Refusal::NoRule { place: 2, ends_early: true }));
     assert_eq!(from_text(b"p 1", &mut result), Err(Refusal::NoRule { place: 2, ends_early: false }));
     assert_eq!(result, [7; 20]);
@@ -73,6 +77,19 @@ fn refusals() {
     assert_eq!(from_text(&many.as_bytes()[46..], &mut result).unwrap().len(), 20);
     assert_eq!(from_text(&many.as_bytes()[45..], &mut result), Err(Refusal::ResultTooShort { room: 20 }));
     assert_eq!(result, [0; 20]);
+}
+
+#[test]
+fn limits() {
+    let typed = |words: usize| format!("{}p1", "X".repeat(words - 1));
+    for limits in [Limits { written: 1, until_like: 0 }, Limits::DESK, Limits::HIGHEST] {
+        let longest = Rule::read(&typed(limits.written), limits).unwrap();
+        assert_eq!((longest.len(), longest.to_string()), (limits.written_room(), typed(limits.written)));
+        let refusal = Refusal::TextOfTooManyWords { limit: limits.written };
+        assert_eq!(Rule::read(&typed(limits.written + 1), limits).unwrap_err().refusal(), refusal);
+    }
+    let outside = Rule::read("(", Limits { written: 257, ..Limits::DESK }).unwrap_err();
+    assert_eq!(outside.to_string(), "the limit on written words is 257, and a house may set 1 to 256");
 }
 
 #[test]

@@ -8,7 +8,8 @@ use Rattle.table.specs.Table.{rule}
 use Rattle.numbering.proofs.Accepted.{rule-small}
 use Rattle.placing.proofs.Written.{written-all}
 use Rattle.dialect_draft.proofs.Letters.{letters-dialect}
-use Rattle.dialect_rooms.proofs.Rooms.{root-drafted, numberable}
+use Rattle.draft.proofs.Fresh.{fresh-numberable}
+use Rattle.dialect_rooms.proofs.Rooms.{root-drafted}
 use Rattle.dialect_rooms.proofs.write_in.Statement.{statement}
 use Rattle.dialect_rooms.proofs.write_in.Tie as tie
 
@@ -20,7 +21,9 @@ abbrev start : tie.After-number-arg5 → tie.Start
 start c = filled c .before .before .before .before .before .before .before .before
 
 number-requires : tie.Need-number-requires
-number-requires c κs = numberable (start c .pre .0) (filled c .fill .kept .1 .0) (filled c .fill .ensures) (start c .pre .1)
+number-requires c κs =
+    let q = start c .pre in
+    fresh-numberable (dialect (rule (now (start c .args .table)))) (q .0 .few) (filled c .fill .kept .1 .0) (root-drafted _ _ (q .0 .accepted) (filled c .fill .ensures)) (q .1)
 
 returns : tie.Need-returns
 unfolding dialectTable

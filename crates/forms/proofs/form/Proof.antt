@@ -1,12 +1,18 @@
-use Prim.Native.Nat.{ℕ, _<_}
+-- Each tier is asked with what it needs, and the part of the result that it is lent serves as the whole.
+use Prim.Native.Nat.{ℕ, _+_, _*_, _≤_, _<_, min}
 use native.Mathlib.Omega.{arith}
-use mathlib.Core.Path.{sym}
+use mathlib.Core.Path.{_≡_, sym}
 use mathlib.Core.Bool.{true}
-use lib.ListN.{length, length-replicate}
+use mathlib.Core.List.{List, _++_}
+use lib.ListN.{length, take, drop, length-replicate}
 use lib.Seq.{length-take-le}
-use Rattle.table.proofs.Accepted.{accepted-well-formed}
 use borrow.Author.Needs.{needs}
-use Rattle.forms.specs.Forms.{positionsLength, shortSlots, mostSlots}
+use Rattle.table.proofs.Accepted.{accepted-well-formed}
+use Rattle.table.specs.Steps.{fixpoints, normalTable}
+use Rattle.placing.specs.Written.{Written}
+use Rattle.fixpoints.specs.Positions.{Kept}
+use Rattle.filling.specs.Filled.{draftSize}
+use Rattle.forms.specs.Forms.{positionsLength, shortSlots, middleSlots, mostSlots, Positioned, Sized}
 use Rattle.forms.proofs.Tiers.{formed-part, sized, capped}
 use Rattle.forms.proofs.form.Statement.{statement}
 use Rattle.forms.proofs.form.Tie as tie
@@ -16,39 +22,53 @@ count-requires c κs =
     let q = c .before .before .before .pre in
     record { limit = q .limit; accepted = q .accepted; few = q .few; long = rw (length-replicate {A = ℕ} positionsLength 0) (omega (arith, q .short, accepted-well-formed true _ _ (q .accepted) .few)) }
 
--- the words are few, and so are the bits
-few-words : (c : tie.Then1) → length (c .before .before .before .before .before .before .before .args .table .now) < positionsLength
-few-words c = omega (arith, c .before .before .before .before .before .before .before .pre .short, accepted-well-formed true _ _ (c .before .before .before .before .before .before .before .pre .accepted) .few)
+-- what was handed over, and how many words its form can need
+module _ (c : tie.After-words) where
+  abbrev counted : tie.After-count
+  counted = c .before .before
 
-few-bits : (c : tie.Then1) → c .before .before .before .count .result < 32
-few-bits c = omega (arith, c .before .before .before .count .ensures .0, c .before .before .before .before .before .before .before .pre .few)
+  abbrev start : tie.Start
+  start = counted .before .before .before .before
 
-small-prefix : tie.Need-slice-aggregate-small-2
-small-prefix c = sym (length-take-le _ _ (omega (arith, c .before .before .before .before .words .ensures)))
+  abbrev t : List ℕ
+  t = start .args .table .now
+
+  abbrev result : List ℕ
+  result = start .args .result .now
+
+  few-words : length t < positionsLength
+  few-words = omega (arith, start .pre .short, accepted-well-formed true _ _ (start .pre .accepted) .few)
+
+  few-bits : counted .count .result < 32
+  few-bits = omega (arith, counted .count .ensures .0, start .pre .few)
+
+  -- the part that is lent is a part
+  prefix : c .words .result ≤ length result
+  prefix = omega (arith, c .words .ensures)
+
+  -- as many slots as the draft has
+  slots : (n : ℕ) → 5 * length t + 3 * counted .count .result + 5 ≤ n → draftSize t ≤ n
+  slots n h = omega (arith, counted .count .ensures .0)
+
+  whole : {e : List ℕ} {r : ℕ} → Written (normalTable t) (take (c .words .result) result) e r → Written (normalTable t) result (e ++ drop (c .words .result) result) r
+  whole = formed-part (start .pre) result (capped (length t) (length result) (counted .count .ensures .0) (c .words .ensures))
 
 small-requires : tie.Need-small-requires
-small-requires c κs = sized shortSlots 1023 (c .before .before .before .before .before .before .before .before .before .before .args .result .now) (c .before .before .before .before .words .result) (c .before .before .before .before .before .before .before .before .before .before .pre) (c .before .before .before .before .before .before .count .ensures) (omega (arith, c .before .before .if2 .taken, c .before .before .before .before .before .before .count .ensures .0)) (omega (arith, c .before .before .before .if1 .taken))
-
-returns : tie.Need-returns
-returns c = formed-part (c .before .before .before .before .before .before .before .before .before .before .before .before .before .pre) (c .before .before .before .before .before .before .before .before .before .before .before .before .before .args .result .now) (capped (length (c .before .before .before .before .before .before .before .before .before .before .before .before .before .args .table .now)) (length (c .before .before .before .before .before .before .before .before .before .before .before .before .before .args .result .now)) (c .before .before .before .before .before .before .before .before .before .count .ensures .0) (c .before .before .before .before .before .before .before .words .ensures)) (c .before .before .small .ensures)
-
-middle-prefix : tie.Need-slice-aggregate-middle-2
-middle-prefix c = sym (length-take-le _ _ (omega (arith, c .before .before .before .before .words .ensures)))
+small-requires c κs =
+    let tested = c .before .before in
+    let w = tested .before .before in
+    sized shortSlots 1023 (result w) (w .words .result) (start w .pre) (counted w .count .ensures) (slots w shortSlots (tested .if2 .taken)) (omega (arith, tested .before .if1 .taken))
 
 middle-requires : tie.Need-middle-requires
-middle-requires c κs = sized mostSlots 4096 (c .before .before .before .before .before .before .before .before .before .before .args .result .now) (c .before .before .before .before .words .result) (c .before .before .before .before .before .before .before .before .before .before .pre) (c .before .before .before .before .before .before .count .ensures) (c .before .before .before .before .before .before .before .before .before .before .pre .drafted) (omega (arith, c .before .before .if3 .taken))
-
-returns-2 : tie.Need-returns-2
-returns-2 c = formed-part (c .before .before .before .before .before .before .before .before .before .before .before .before .before .pre) (c .before .before .before .before .before .before .before .before .before .before .before .before .before .args .result .now) (capped (length (c .before .before .before .before .before .before .before .before .before .before .before .before .before .args .table .now)) (length (c .before .before .before .before .before .before .before .before .before .before .before .before .before .args .result .now)) (c .before .before .before .before .before .before .before .before .before .count .ensures .0) (c .before .before .before .before .before .before .before .words .ensures)) (c .before .before .middle .ensures)
-
-large-prefix : tie.Need-slice-aggregate-large-2
-large-prefix c = sym (length-take-le _ _ (omega (arith, c .before .before .before .before .words .ensures)))
+middle-requires c κs =
+    let tested = c .before .before in
+    let w = tested .before .before .before in
+    sized middleSlots 4096 (result w) (w .words .result) (start w .pre) (counted w .count .ensures) (slots w middleSlots (tested .if4 .taken)) (omega (arith, tested .before .if3 .taken))
 
 large-requires : tie.Need-large-requires
-large-requires c κs = sized mostSlots 16383 (c .before .before .before .before .before .before .before .before .before .before .args .result .now) (c .before .before .before .before .words .result) (c .before .before .before .before .before .before .before .before .before .before .pre) (c .before .before .before .before .before .before .count .ensures) (c .before .before .before .before .before .before .before .before .before .before .pre .drafted) (omega arith)
-
-returns-3 : tie.Need-returns-3
-returns-3 c = formed-part (c .before .before .before .before .before .before .before .before .before .before .before .before .before .pre) (c .before .before .before .before .before .before .before .before .before .before .before .before .before .args .result .now) (capped (length (c .before .before .before .before .before .before .before .before .before .before .before .before .before .args .table .now)) (length (c .before .before .before .before .before .before .before .before .before .before .before .before .before .args .result .now)) (c .before .before .before .before .before .before .before .before .before .count .ensures .0) (c .before .before .before .before .before .before .before .words .ensures)) (c .before .before .large .ensures)
+large-requires c κs =
+    let w = c .before .before .before .before in
+    sized mostSlots 16383 (result w) (w .words .result) (start w .pre) (counted w .count .ensures) (start w .pre .drafted) (omega arith)
 
 pub form-spec : {M : Type 1} → statement M
 form-spec =
@@ -64,19 +84,19 @@ form-spec =
     (λ c. omega (arith, few-words c, few-bits c))
     (λ c. search needs)
     (λ c. search needs)
-    small-prefix
+    (λ c. sym (length-take-le _ _ (prefix (c .before .before .before .before))))
     small-requires
     (λ c. search needs)
-    returns
+    (λ c. whole (c .before .before .before .before .before .before .before) (c .before .before .small .ensures))
     (λ c. search needs)
     (λ c. search needs)
-    middle-prefix
+    (λ c. sym (length-take-le _ _ (prefix (c .before .before .before .before .before))))
     middle-requires
     (λ c. search needs)
-    returns-2
+    (λ c. whole (c .before .before .before .before .before .before .before .before) (c .before .before .middle .ensures))
     (λ c. search needs)
     (λ c. search needs)
-    large-prefix
+    (λ c. sym (length-take-le _ _ (prefix (c .before .before .before .before))))
     large-requires
     (λ c. search needs)
-    returns-3)
+    (λ c. whole (c .before .before .before .before .before .before .before) (c .before .before .large .ensures)))

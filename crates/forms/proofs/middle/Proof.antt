@@ -1,12 +1,12 @@
 use native.Mathlib.Omega.{arith}
 use borrow.Author.Needs.{needs}
-use Rattle.forms.specs.Forms.{mostSlots}
+use Rattle.forms.specs.Forms.{middleSlots}
 use Rattle.forms.proofs.Tiers.{formable, formed}
 use Rattle.forms.proofs.middle.Statement.{statement}
 use Rattle.forms.proofs.middle.Tie as tie
 
 form-requires : tie.Need-form-requires
-form-requires c κs = formable mostSlots 8194 4096 (c .before .before .before .before .before .before .before .before .pre) (omega arith) (omega arith) (omega arith)
+form-requires c κs = formable middleSlots 8194 4096 (c .before .before .before .before .before .before .before .before .pre) (omega arith) (omega arith) (omega arith)
 
 returns : tie.Need-returns
 returns c = formed (c .before .before .before .before .before .before .before .before .before .before .before .before .before .before .before .pre .0 .table) 8194 (c .before .before .before .before .before .before .form .ensures)

@@ -5,7 +5,9 @@ use native.Mathlib.Omega.{arith}
 use lib.ListN.{length-drop}
 use lib.Seq.{length-take-le}
 use denote.Ref.{now}
+use mathlib.Core.Bool.{false}
 use Rattle.table.specs.Header.{body}
+use Rattle.table.proofs.Accepted.{accepted-well-formed}
 use Rattle.heading.proofs.Ends.{given-empty}
 use Rattle.nnf.proofs.Step.{form-finishable, form-given}
 use Rattle.nnf.proofs.answer.Statement.{statement}
@@ -22,11 +24,12 @@ returns c =
 write-requires : tie.Need-write-requires
 write-requires c κs =
     let start = c .before .before .before .before .before in
+    let words = now (start .args .words) in
     record {
-      limit = start .args .limit;
+      limit = start .pre .limit;
       accepted = start .pre .accepted;
-      room = start .pre .room;
-      few = omega (arith, start .pre .room, c .before .lesser .ensures, length-take-le (c .before .lesser .result - 1) (body (now (start .args .result))) (omega (arith, c .before .lesser .ensures, length-drop 1 (now (start .args .result)))));
+      few = omega (arith, start .pre .small, accepted-well-formed false (start .pre .limit) words (start .pre .accepted) .few);
+      lent = omega (arith, c .before .lesser .ensures, length-take-le (c .before .lesser .result - 1) (body (now (start .args .result))) (omega (arith, c .before .lesser .ensures, length-drop 1 (now (start .args .result)))));
     }
 
 finish-requires-2 : tie.Need-finish-requires-2

@@ -1,8 +1,6 @@
 use mathlib.Core.Path.{sym, _∙_}
-use native.Mathlib.Omega.{arith}
 use denote.Ref.{now}
 use borrow.Author.Needs.{needs}
-use Rattle.table.specs.Limits.{desk}
 use Rattle.claims.proofs.Promise.{within, claimed-refused, claimed-made}
 use Rattle.pipeline.proofs.normal_form.Statement.{statement}
 use Rattle.pipeline.proofs.normal_form.Tie as tie
@@ -11,20 +9,20 @@ part-normalise-end : tie.Need-part-normalise-end
 part-normalise-end c =
     let a = c .before .before .before .before .before .before .before .before .before .before .before .args in
     let f = c .before .before .before .before .before .before .plain-form in
-    within desk (now (a .table)) (now (a .plain)) (f .last .1 .0) _ (sym (f .ensures .0) ∙ c .before .before .n .given .1) (f .kept .1 .0)
+    within (a .limits) (now (a .table)) (now (a .plain)) (f .last .1 .1 .0) _ (sym (f .ensures .0) ∙ c .before .before .n .given .1) (f .kept .1 .1 .0)
 
 returns : tie.Need-returns
 returns c =
     let a = c .before .before .before .before .before .before .before .before .before .before .args in
     let f = c .before .before .before .before .before .plain-form in
-    claimed-refused desk (omega arith) (now (a .table)) (now (a .plain)) (now (a .form)) (sym (f .ensures .0) ∙ c .before .r .given .1) (f .ensures .1)
+    claimed-refused (a .limits) (now (a .table)) (now (a .plain)) (now (a .form)) (sym (f .ensures .0) ∙ c .before .r .given .1) (f .ensures .1)
 
 returns-2 : tie.Need-returns-2
 returns-2 c =
     let a = c .before .before .before .before .before .before .before .before .before .before .before .before .before .before .before .before .args in
     let f = c .before .before .before .before .before .before .before .before .before .before .before .plain-form in
     let g = c .before .before .normalise .ensures in
-    claimed-made desk (omega arith) (now (a .table)) (now (a .plain)) (now (a .form)) (sym (f .ensures .0) ∙ c .before .before .before .before .before .before .before .n .given .1) (f .ensures .1) (g .0) (g .1)
+    claimed-made (a .limits) (now (a .table)) (now (a .plain)) (now (a .form)) (sym (f .ensures .0) ∙ c .before .before .before .before .before .before .before .n .given .1) (f .ensures .1) (g .0) (g .1)
 
 pub normal-form-spec : {M : Type 1} → statement M
 normal-form-spec =

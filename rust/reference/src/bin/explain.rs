@@ -6,6 +6,7 @@ use reference::class::Classes;
 use reference::edges::headed;
 use reference::forest::{Forest, Tree};
 use reference::header::words;
+use reference::limits::Limits;
 use reference::listing::bits;
 use reference::steps::{normal_words, plain_words};
 use reference::text::{read, show};
@@ -16,10 +17,10 @@ fn main() {
     let tree = read(&mut forest, &text);
     let written = headed(&bits(&forest, tree));
     print("written", &written, false);
-    let plain: Vec<u32> = plain_words(&written).expect("it passes the checks").iter().map(|w| w.bits()).collect();
+    let plain: Vec<u32> = plain_words(&written, Limits::DESK).expect("it passes the checks").iter().map(|w| w.bits()).collect();
     let plain = headed(&plain);
     print("plain form", &plain, true);
-    let form: Vec<u32> = normal_words(&plain).expect("it passes the checks").iter().map(|w| w.bits()).collect();
+    let form: Vec<u32> = normal_words(&plain, Limits::DESK).expect("it passes the checks").iter().map(|w| w.bits()).collect();
     print("normal form", &headed(&form), true);
 }
 

@@ -1,8 +1,13 @@
 //! A case of the case runner: how it is written for the runner, and what the runner must print.
 use reference::checks::Refusal;
 use reference::edges::{chain_of_next, headed};
+use reference::limits::Limits;
 use reference::recording::Recording;
 use reference::steps::{self, Judgement, Tally};
+
+/// The runner's memory for the table of a text or a plain form, and for any form.
+pub const PLAIN_ROOM: usize = 520;
+pub const FORM_ROOM: usize = 16_400;
 
 #[derive(Clone, Copy, PartialEq, Eq)]
 pub enum Step {
@@ -27,6 +32,8 @@ pub struct Case {
     pub listed: Vec<u32>,
     pub replaced: Option<(usize, u32)>,
     pub header: Header,
+    /// Of the house.
+    pub limits: Limits,
     /// Rooms of the lent slices.
     pub room: usize,
     pub second: usize,
@@ -56,7 +63,7 @@ pub enum Samples {
 }
 
 impl Case {
-    /// Of a table with these words, under their header.
+    /// Of a table with these words, under their header, in a house that keeps to the desk's limits.
     pub fn new(label: &str, step: Step, words: &[u32], room: usize) -> Case {
         Case {
             label: label.into(),
@@ -65,6 +72,7 @@ impl Case {
             listed: words.to_vec(),
             replaced: None,
             header: Header::Theirs,
+            limits: Limits::DESK,
             room,
             second: 0,
             plain: false,
@@ -82,6 +90,12 @@ impl Case {
         Case { header: Header::None, ..Case::new(label, Step::Text, &bytes, room) }
     }
 
+    /// In a house with these limits.
+    pub fn within(self, limits: Limits) -> Case {
+        let label = format!("limits {} and {}, {}", limits.written, limits.until_like, self.label);
+        Case { label, limits, ..self }
+    }
+
     /// The case as the runner reads it (crates/case_input/src/input.rt).
     pub fn words(&self) -> Vec<u32> {
         // the header is the first of the listed words, and stands before the chain; the word that is replaced is counted with it
@@ -94,7 +108,8 @@ impl Case {
         };
         let number = |n: usize| u32::try_from(n).expect("a word");
         let mut words = vec![self.step as u32, number(self.chain), number(listed.len()), number(place), word];
-        words.extend([number(self.room), number(self.second), self.plain as u32, number(self.limit)]);
+        words.extend([self.limits.written, self.limits.until_like, self.room, self.second].map(number));
+        words.extend([self.plain as u32, number(self.limit)]);
         words.extend([number(count), number(self.start), number(self.driven), self.tally.judged, self.tally.held, seed]);
         words.extend(listed);
         words.extend(samples);
@@ -145,28 +160,28 @@ impl Case {
             }
             Step::Text => {
                 let text: Vec<u8> = table.iter().map(|&byte| u8::try_from(byte).expect("a byte")).collect();
-                let mut result = vec![0xEEEE_EEEE; 140];
-                let made = steps::text(&text, &mut result[..self.room]);
+                let mut result = vec![0xEEEE_EEEE; PLAIN_ROOM];
+                let made = steps::text(&text, self.limits, &mut result[..self.room]);
                 format!("{}, {}{}", answer(&made), made.unwrap_or(0), words(&result))
             }
             Step::Plain => {
-                let mut result = vec![0xEEEE_EEEE; 140];
-                let made = steps::plain(&table, &mut result[..self.room]);
+                let mut result = vec![0xEEEE_EEEE; PLAIN_ROOM];
+                let made = steps::plain(&table, self.limits, &mut result[..self.room]);
                 format!("{}, {}{}", answer(&made), made.unwrap_or(0), words(&result))
             }
             Step::Normal => {
-                let mut result = vec![0xEEEE_EEEE; 16_400];
-                let made = steps::normal(&table, &mut result[..self.room]);
+                let mut result = vec![0xEEEE_EEEE; FORM_ROOM];
+                let made = steps::normal(&table, self.limits, &mut result[..self.room]);
                 format!("{}, {}{}", answer(&made), made.unwrap_or(0), words(&result))
             }
             Step::Dialect => {
-                let mut result = vec![0xEEEE_EEEE; 16_400];
+                let mut result = vec![0xEEEE_EEEE; FORM_ROOM];
                 let made = steps::dialect(&table, &mut result[..self.room]);
                 format!("{}, {}{}", answer(&made), made.unwrap_or(0), words(&result))
             }
             Step::Form => {
-                let (mut plain, mut result) = (vec![0xEEEE_EEEE; 140], vec![0xEEEE_EEEE; 16_400]);
-                let made = steps::form(&table, &mut plain[..self.room], &mut result[..self.second]);
+                let (mut plain, mut result) = (vec![0xEEEE_EEEE; PLAIN_ROOM], vec![0xEEEE_EEEE; FORM_ROOM]);
+                let made = steps::form(&table, self.limits, &mut plain[..self.room], &mut result[..self.second]);
                 format!("{}, {}{}{}", answer(&made), made.unwrap_or(0), words(&plain), words(&result))
             }
             Step::Judge => {

@@ -3,6 +3,7 @@
 use crate::case::{Case, Step};
 use crate::forms::{denied, rooms};
 use reference::edges::{chain_of, chain_of_next, headed, nested};
+use reference::limits::Limits;
 use reference::steps::{dialect_words, plain_words};
 use reference::word::Word;
 
@@ -14,7 +15,8 @@ pub fn cases() -> Vec<Case> {
         cases.extend(rooms(length, 16_400).into_iter().map(case));
     }
     for (label, words) in nested(2) {
-        let plain: Vec<u32> = plain_words(&headed(&words)).expect("a plain form").iter().map(|w| w.bits()).collect();
+        let plain: Vec<u32> =
+            plain_words(&headed(&words), Limits::DESK).expect("a plain form").iter().map(|w| w.bits()).collect();
         cases.push(Case::new(&format!("{label}, dialect of its plain form"), Step::Dialect, &plain, 16_384));
     }
     cases.extend(long());

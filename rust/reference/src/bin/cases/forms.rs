@@ -1,22 +1,27 @@
 //! Plain and normal forms: every operator alone, denied and nested in every other; shared words; the limits on words and until-like
 //! words; result slices of exactly the length, one less, none, and longer than any counts for; forms as long as slices count for.
-use crate::case::{Case, Step};
+use crate::case::{Case, Step, FORM_ROOM, PLAIN_ROOM};
 use reference::edges::{chain_of, chain_of_ands, chain_of_next, headed, long_forms, nested};
+use reference::limits::Limits;
 use reference::steps::{normal_words, plain_words};
 use reference::word::Word;
 
 pub fn cases() -> Vec<Case> {
     let mut cases = Vec::new();
     for (label, words) in tables() {
-        cases.extend(plain(&label, &words));
-        cases.extend(normal(&label, &words));
-        cases.extend(whole(&label, &words));
+        cases.extend(every_form(&label, &words, Limits::DESK));
     }
     for (label, words) in nested(2) {
         let form = Case { second: 16_384, ..Case::new(&format!("{label}, whole way"), Step::Form, &words, 131) };
         cases.push(form);
     }
     cases
+}
+
+/// The plain form, the normal form and the whole way of a table with these words.
+pub fn every_form(label: &str, words: &[u32], limits: Limits) -> Vec<Case> {
+    let cases = [plain(label, words, limits), normal(label, words, limits), whole(label, words, limits)].concat();
+    cases.into_iter().map(|case| case.within(limits)).collect()
 }
 
 /// A room that is enough, the exact one, one less, and none. The length counts the header, and is 0 where nothing is made.
@@ -26,22 +31,22 @@ pub fn rooms(length: usize, enough: usize) -> Vec<usize> {
     rooms
 }
 
-fn plain(label: &str, words: &[u32]) -> Vec<Case> {
-    let length = plain_words(&headed(words)).map_or(0, |form| 1 + form.len());
+fn plain(label: &str, words: &[u32], limits: Limits) -> Vec<Case> {
+    let length = plain_words(&headed(words), limits).map_or(0, |form| 1 + form.len());
     let case = |room| Case::new(&format!("{label}, plain form, room {room}"), Step::Plain, words, room);
-    rooms(length, 140).into_iter().map(case).collect()
+    rooms(length, PLAIN_ROOM).into_iter().map(case).collect()
 }
 
-fn normal(label: &str, words: &[u32]) -> Vec<Case> {
-    let length = normal_words(&headed(words)).map_or(0, |form| (1 + form.len()).min(16_400));
+fn normal(label: &str, words: &[u32], limits: Limits) -> Vec<Case> {
+    let length = normal_words(&headed(words), limits).map_or(0, |form| (1 + form.len()).min(FORM_ROOM));
     let case = |room| Case::new(&format!("{label}, normal form, room {room}"), Step::Normal, words, room);
-    rooms(length, 16_400).into_iter().map(case).collect()
+    rooms(length, FORM_ROOM).into_iter().map(case).collect()
 }
 
 /// The whole way, with either slice too short by one, both right, and none.
-fn whole(label: &str, words: &[u32]) -> Vec<Case> {
-    let plain: Vec<u32> = plain_words(&headed(words)).unwrap_or_default().iter().map(|w| w.bits()).collect();
-    let m = normal_words(&headed(&plain)).map_or(0, |form| (1 + form.len()).min(16_400));
+fn whole(label: &str, words: &[u32], limits: Limits) -> Vec<Case> {
+    let plain: Vec<u32> = plain_words(&headed(words), limits).unwrap_or_default().iter().map(|w| w.bits()).collect();
+    let m = normal_words(&headed(&plain), limits).map_or(0, |form| (1 + form.len()).min(FORM_ROOM));
     let n = if plain.is_empty() { 0 } else { 1 + plain.len() };
     let case = |(room, second): (usize, usize)| Case {
         second,

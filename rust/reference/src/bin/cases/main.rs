@@ -7,6 +7,7 @@ mod dialect;
 mod forms;
 mod headers;
 mod judging;
+mod limits;
 mod tables;
 mod texts;
 
@@ -17,7 +18,8 @@ fn main() {
     let folder = env::args().nth(1).expect("usage: cases FOLDER");
     let folder = Path::new(&folder);
     let cases: Vec<Case> =
-        [tables::cases(), headers::cases(), forms::cases(), judging::cases(), texts::cases(), dialect::cases()].concat();
+        [tables::cases(), headers::cases(), forms::cases(), judging::cases(), texts::cases(), dialect::cases(), limits::cases()]
+            .concat();
     if env::args().nth(2).is_some() {
         cases.iter().for_each(|case| println!("{}", case.label));
         return;

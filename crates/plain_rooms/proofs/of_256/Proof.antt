@@ -1,0 +1,16 @@
+-- Nothing is drafted, numbered or written yet, and there is room.
+use native.Mathlib.Omega.{arith}
+use borrow.Author.Needs.{needs}
+use Rattle.plain_rooms.proofs.Rooms.{nothing-drafted, nothing-numbered}
+use Rattle.plain_rooms.proofs.of_256.Statement.{statement}
+use Rattle.plain_rooms.proofs.of_256.Tie as tie
+
+write-in-requires : tie.Need-write-in-requires
+write-in-requires c κs =
+    let q = c .before .before .before .before .before .before .before .pre in
+    (nothing-drafted 256 514 1030 q (omega arith) (omega arith), nothing-numbered 256 514 1030 q (omega arith) (omega arith) (omega arith))
+
+pub of-256-spec : {M : Type 1} → statement M
+of-256-spec =
+    tie.close
+    (tie.spec (λ c. search needs) (λ c. search needs) (λ c. search needs) (λ c. search needs) write-in-requires (λ c. search needs) (λ c. search needs))
