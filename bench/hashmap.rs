@@ -328,7 +328,7 @@ struct NormalForm<'a> {
 
 impl NormalForm<'_> {
     fn parts(&mut self) -> Result<u32, Refused> {
-        let mut choices: Vec<u32> = (0..1 << self.until_like.len()).collect();
+        let mut choices: Vec<u32> = (0..1 << self.until_like.len()).rev().collect();
         choices.sort_by_key(|choice| choice.count_ones());
         let mut n = self.part(0)?;
         for &choice in &choices[1..] {

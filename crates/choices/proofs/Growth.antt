@@ -54,10 +54,6 @@ module _ (f : Formula → Formula) (o : Binary) (ψ : Formula) {s : State} {n : 
       placed = λ s₀ χ p. placing-both o (f χ) ψ p (omega (arith, g)) q (omega (arith, y)) k;
     }
 
--- one after the other
-pub grown-then : {f g h : Formula → Formula} {s m e : State} {a b r : ℕ} → Grown f g s m a b → Grown g h m e b r → Grown f h s e a r
-grown-then p q = record { numbered = q .numbered; small = q .small; placed = λ s χ b. q .placed s χ (p .placed s χ b) }
-
 -- the same formula under another name
 pub grown-as : {f f′ : Formula → Formula} (g g′ : Formula → Formula) {s e : State} {a r : ℕ} → ((χ : Formula) → f′ χ ≡ f χ) → ((χ : Formula) → g χ ≡ g′ χ) → Grown f g s e a r → Grown f′ g′ s e a r
 grown-as g g′ x y q = record { numbered = q .numbered; small = q .small; placed = λ s χ p. rw (← (y χ)) (q .placed s χ (rw (x χ) at p)) }

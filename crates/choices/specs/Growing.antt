@@ -6,7 +6,7 @@ use lib.ListN.{length}
 use lib.Count.{ones}
 use lib.Dec.{eqb}
 use Rattle.logic.specs.Formula.{Formula, bin, disj}
-use Rattle.logic.specs.NormalForm.{part, keep, from}
+use Rattle.logic.specs.NormalForm.{part, keep}
 use Rattle.table.specs.Numbering.{build}
 use Rattle.table.specs.Table.{rule}
 use Rattle.table.specs.Steps.{fixpoints}
@@ -18,9 +18,9 @@ use Rattle.filling.specs.Filled.{Roomy}
 abbrev pub disjoined : List ℕ → List ℕ → Formula → Formula
 disjoined t cs φ = foldl (bin disj) φ (map (part (fixpoints t) (rule t)) cs)
 
--- the choices below a limit with so many chosen words
-abbrev pub choicesBelow : ℕ → ℕ → List ℕ
-choicesBelow limit n = keep (λ c. eqb (ones c) n) (from 0 limit)
+-- the choices of a list with so many chosen words
+abbrev pub chosenIn : List ℕ → ℕ → List ℕ
+chosenIn cs n = keep (λ c. eqb (ones c) n) cs
 
 -- where the words of f χ were placed up to s, and n is its number, those of g χ are placed up to e, and r is its number; 0: they do not fit
 pub record Grown (f g : Formula → Formula) (s e : State) (n r : ℕ) : Type 0 where

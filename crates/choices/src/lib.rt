@@ -1,16 +1,17 @@
-// The parts of all choices, fewer chosen words first and equal counts by lower number, joined by or.
+// The parts of all choices, fewer chosen words first and equal counts by higher number, joined by or.
 use placing::put;
 use table::kinds;
-ghost use Prim.Native.Nat.{suc, _<_};
+ghost use Prim.Native.Nat.{_<_};
+ghost use mathlib.Core.List.{[], _∷_};
 ghost use lib.ListN.{length};
-ghost use Rattle.logic.specs.NormalForm.{normalForm};
+ghost use Rattle.logic.specs.NormalForm.{normalForm, below};
 ghost use Rattle.table.specs.Numbering.{build};
 ghost use Rattle.table.specs.Table.{rule};
 ghost use Rattle.table.specs.Steps as steps;
 ghost use Rattle.placing.specs.State.{state, written, Placing};
 ghost use Rattle.filling.specs.Filled.{Laid};
 ghost use Rattle.parts.specs.Ready.{Ready};
-ghost use Rattle.choices.specs.Growing.{disjoined, choicesBelow, Formable, Grown};
+ghost use Rattle.choices.specs.Growing.{disjoined, chosenIn, Formable, Grown};
 
 // The number of `n or p`, with p the part of the choice, if it has so many chosen words, and n otherwise.
 pub fn with_part(
@@ -28,8 +29,8 @@ pub fn with_part(
     requires { ⌜ Ready (now table) (now positions) (now draft) (now numbers) (now stack) (state (now out) (now index)) ⌝ }
     requires { ⌜ n < 16384 ⌝ }
     ensures { λ r. ⌜ Grown
-        (disjoined (now (table .entry)) (choicesBelow choice ones))
-        (disjoined (now (table .entry)) (choicesBelow (suc choice) ones))
+        (λ φ. φ)
+        (disjoined (now (table .entry)) (chosenIn (choice ∷ []) ones))
         (state (now (out .entry)) (now (index .entry)))
         (state (now (out .exit)) (now (index .exit)))
         n
@@ -49,7 +50,7 @@ pub fn with_part(
     put::put(out, index, word::pack(kinds::OR, n, p))
 }
 
-// The choices below `limit` with so many chosen words.
+// The choices below `limit` with so many chosen words, the highest first.
 pub fn with_ones(
     table: &[u32],
     positions: &[u8],
@@ -66,7 +67,7 @@ pub fn with_ones(
     requires { ⌜ first < 16384 ⌝ }
     ensures { λ r. ⌜ Grown
         (λ φ. φ)
-        (disjoined (now (table .entry)) (choicesBelow limit ones))
+        (disjoined (now (table .entry)) (chosenIn (below limit) ones))
         (state (now (out .entry)) (now (index .entry)))
         (state (now (out .exit)) (now (index .exit)))
         first
@@ -74,8 +75,9 @@ pub fn with_ones(
     ensures { λ r. ⌜ Laid (now (table .entry)) (now (draft .exit)) (length (now (table .entry))) ⌝ }
 {
     let mut n = first;
-    let mut choice = 0;
-    while choice < limit {
+    let mut choice = limit;
+    while 0 < choice {
+        choice -= 1;
         n = with_part(
             table,
             positions,
@@ -88,7 +90,6 @@ pub fn with_ones(
             index,
             n,
         );
-        choice += 1;
     }
     n
 }

@@ -1,4 +1,4 @@
--- The normal form of source 002, Theorem 23, in the order of document 01: choices, their parts, and the form.
+-- The normal form of source 002, Theorem 23, in the order of documents 01 and 02: choices, their parts, and the form.
 use Prim.Native.Nat.{ℕ, zero, suc, _/_, _%_, _^_}
 use mathlib.Core.Bool.{Bool, true, false, _||_, cond}
 use mathlib.Core.List.{List, [], _∷_, _++_, map, foldl}
@@ -57,15 +57,20 @@ abbrev pub from : ℕ → ℕ → List ℕ
 from a zero = []
 from a (suc n) = a ∷ from (suc a) n
 
--- the choices among k fixpoint formulas with a given number of chosen ones, lower numbers first
+-- the numbers below n, the highest first
+abbrev pub below : ℕ → List ℕ
+below zero = []
+below (suc n) = n ∷ below n
+
+-- the choices among k fixpoint formulas with a given number of chosen ones, higher numbers first
 unfoldable pub choicesOf : ℕ → ℕ → List ℕ
-choicesOf k n = keep (λ c. eqb (ones c) n) (from 0 (2 ^ k))
+choicesOf k n = keep (λ c. eqb (ones c) n) (below (2 ^ k))
 
 abbrev pub joinAll {ℓ} : {A : Type ℓ} → List (List A) → List A
 joinAll [] = []
 joinAll (l ∷ ls) = l ++ joinAll ls
 
--- fewer chosen ones first, equal counts by lower number
+-- fewer chosen ones first, equal counts by higher number (document 02, N7)
 unfoldable pub choices : ℕ → List ℕ
 choices k = joinAll (map (choicesOf k) (from 0 (suc k)))
 

@@ -1,50 +1,38 @@
--- The order of the choices: fewer chosen words first, equal counts by lower number. The empty choice is the first.
+-- The order of the choices: fewer chosen words first, equal counts by higher number. The empty choice is the first.
 use Prim.Native.Nat.{ℕ, zero, suc, _+_, _/_, _%_, _^_, _≤_, _<_}
 use native.Mathlib.Omega.{arith}
 use native.Mathlib.Decide.{ℕ-discrete}
 use mathlib.Core.Path.{_≡_, refl, sym, ap, _∙_}
-use mathlib.Core.Bool.{cond}
 use mathlib.Core.List.{List, [], _∷_, _++_, map, map-append, foldl, foldl-append, append-nil, append-assoc}
 use lib.ListN.{length}
 use lib.Count.{ones, ones-step}
 use lib.Pow.{pow-pos}
 use lib.Dec.{eqb}
-use borrow.Author.Tests.{ne-eqb, eq-eqb}
+use borrow.Author.Tests.{ne-eqb}
 use Rattle.logic.specs.Formula.{Formula, bin, disj}
-use Rattle.logic.specs.NormalForm.{keep, from, joinAll, choicesOf, choices, disjoin, part, normalForm}
+use Rattle.logic.specs.NormalForm.{keep, from, below, joinAll, choicesOf, choices, disjoin, part, normalForm}
 use Rattle.table.specs.Table.{rule}
 use Rattle.table.specs.Steps.{fixpoints}
-use Rattle.normal_laws.proofs.Chosen.{keep-append}
 
 -- a formula, or the parts of choices, joined from the left
 abbrev pub disjoined : List ℕ → List ℕ → Formula → Formula
 disjoined t cs φ = foldl (bin disj) φ (map (part (fixpoints t) (rule t)) cs)
 
--- the choices below a limit with so many chosen words
+-- the choices of a list with so many chosen words, and those below a limit
+abbrev pub chosenIn : List ℕ → ℕ → List ℕ
+chosenIn cs n = keep (λ c. eqb (ones c) n) cs
+
 abbrev pub choicesBelow : ℕ → ℕ → List ℕ
-choicesBelow limit n = keep (λ c. eqb (ones c) n) (from 0 limit)
+choicesBelow limit n = chosenIn (below limit) n
 
 from-snoc : (a n : ℕ) → from a (suc n) ≡ from a n ++ ((a + n) ∷ [])
 from-snoc a zero = ap (λ (k : ℕ). k ∷ []) (omega arith)
 from-snoc a (suc n) = ap (λ (l : List ℕ). a ∷ l) (from-snoc (suc a) n ∙ ap (λ (k : ℕ). from (suc a) n ++ (k ∷ [])) (omega arith))
 
-pub below-more : (c n : ℕ) → choicesBelow (suc c) n ≡ choicesBelow c n ++ cond (eqb (ones c) n) (c ∷ []) []
-below-more c n = ap (keep (λ d. eqb (ones d) n)) (from-snoc 0 c) ∙ keep-append (λ d. eqb (ones d) n) (from 0 c) _ ∙ ap (λ (k : ℕ). choicesBelow c n ++ cond (eqb (ones k) n) (k ∷ []) []) (omega arith)
-
-pub below-other : (c n : ℕ) → (ones c ≡ n → ⊥) → choicesBelow c n ≡ choicesBelow (suc c) n
-below-other c n f = sym (below-more c n ∙ rw (ne-eqb (ones c) n f, append-nil))
-
-pub below-taken : (c n : ℕ) → ones c ≡ n → choicesBelow c n ++ (c ∷ []) ≡ choicesBelow (suc c) n
-below-taken c n e = sym (below-more c n ∙ rw (eq-eqb (ones c) n e))
-
 -- the parts of more choices are joined after those of the first
 pub disjoined-append : (t cs ds : List ℕ) (φ : Formula) → disjoined t ds (disjoined t cs φ) ≡ disjoined t (cs ++ ds) φ
 disjoined-append t cs ds φ =
     sym (ap (foldl (bin disj) φ) (map-append (part (fixpoints t) (rule t)) cs ds) ∙ foldl-append (bin disj) φ (map (part (fixpoints t) (rule t)) cs) _)
-
-pub disjoined-taken : (t : List ℕ) (c n : ℕ) → ones c ≡ n → (φ : Formula)
-    → bin disj (disjoined t (choicesBelow c n) φ) (part (fixpoints t) (rule t) c) ≡ disjoined t (choicesBelow (suc c) n) φ
-disjoined-taken t c n e φ = disjoined-append t (choicesBelow c n) (c ∷ []) φ ∙ ap (λ (cs : List ℕ). disjoined t cs φ) (below-taken c n e)
 
 -- a number that is not 0 has a one
 ones-positive : (n c : ℕ) → c ≤ n → 0 < c → 0 < ones c
@@ -55,14 +43,10 @@ ones-positive (suc n) c h p = go (ℕ-discrete (c % 2) 0) (ones-positive n (c / 
     go (yes e) r = omega (arith, ones-step c, r (omega arith))
     go (no e) r = omega (arith, ones-step c, e)
 
-none-kept : (a n : ℕ) → 0 < a → keep (λ c. eqb (ones c) 0) (from a n) ≡ []
-none-kept a zero h = refl
-none-kept a (suc n) h = rw (ne-eqb (ones a) 0 (λ e. omega (arith, ones-positive a a (omega arith) h))) (none-kept (suc a) n (omega arith))
-
-empty-first : (n : ℕ) → 0 < n → choicesBelow n 0 ≡ 0 ∷ []
+empty-first : (n : ℕ) → choicesBelow (suc n) 0 ≡ 0 ∷ []
 unfolding ones
-empty-first zero h = absurd (omega arith)
-empty-first (suc n) h = ap (λ (l : List ℕ). 0 ∷ l) (none-kept 1 n (omega arith))
+empty-first zero = refl
+empty-first (suc n) = rw (ne-eqb (ones (suc n)) 0 (λ e. omega (arith, ones-positive (suc n) (suc n) (omega arith) (omega arith)))) (empty-first n)
 
 -- the choices with one chosen word up to n of them
 abbrev pub upTo : ℕ → ℕ → List ℕ
@@ -82,7 +66,11 @@ upTo-more k n =
 
 pub choices-first : (k : ℕ) → choices k ≡ 0 ∷ upTo k k
 unfolding choices choicesOf
-choices-first k = ap (λ (l : List ℕ). l ++ upTo k k) (empty-first (2 ^ k) (pow-pos k))
+choices-first k = ap (λ (l : List ℕ). l ++ upTo k k) (some (2 ^ k) (pow-pos k))
+  where
+    some : (n : ℕ) → 0 < n → choicesBelow n 0 ≡ 0 ∷ []
+    some zero h = absurd (omega arith)
+    some (suc n) h = empty-first n
 
 -- the form: the part of the empty choice, and those of all others
 pub normalForm-disjoined : (t : List ℕ) → disjoined t (upTo (length (fixpoints t)) (length (fixpoints t))) (part (fixpoints t) (rule t) 0) ≡ normalForm (fixpoints t) (rule t)

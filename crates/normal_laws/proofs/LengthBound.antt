@@ -13,7 +13,7 @@ use lib.Dec.{eqb}
 use lib.Count.{ones}
 use native.Mathlib.Decide.{ℕ-discrete}
 use borrow.Author.Tests.{ne-eqb, eq-eqb}
-use Rattle.normal_laws.proofs.ChoiceOrder.{choicesBelow, below-more, upTo, choices-first, normalForm-disjoined}
+use Rattle.normal_laws.proofs.ChoiceOrder.{choicesBelow, upTo, choices-first, normalForm-disjoined}
 use Rattle.logic.specs.NormalForm.{isLeast, isGreatest, isFixpoint, keep, chosen, leastOf, greatestOf, member, part, from, joinAll, choicesOf, choices, normalForm}
 use Rattle.table.specs.Table.{formulas, rule}
 use Rattle.table.specs.Numbering.{tableOf}
@@ -219,14 +219,22 @@ same-flat : (g h : ℕ → List ℕ) → ((n : ℕ) → g n ≡ h n) → (l : Li
 same-flat g h e [] = refl
 same-flat g h e (x ∷ l) = omega (arith, length-append (g x) (joinAll (map g l)), length-append (h x) (joinAll (map h l)), ap length (e x), same-flat g h e l)
 
+below-more : (c n : ℕ) → choicesBelow (suc c) n ≡ hit (ones c) c n ++ choicesBelow c n
+unfolding hit
+below-more c n = go (eqb (ones c) n)
+  where
+    go : (b : Bool) → cond b (c ∷ choicesBelow c n) (choicesBelow c n) ≡ cond b (c ∷ []) [] ++ choicesBelow c n
+    go true = refl
+    go false = refl
+
 below-length : (c a m : ℕ) → length (joinAll (map (choicesBelow c) (from a m))) ≤ c
 unfolding hit
 below-length zero a m = omega (arith, flat-length (choicesBelow zero) 0 (from a m) (λ n. omega arith))
 below-length (suc c) a m =
     omega (
       arith,
-      same-flat (choicesBelow (suc c)) (λ n. choicesBelow c n ++ hit (ones c) c n) (λ n. below-more c n) (from a m),
-      flat-sum (choicesBelow c) (hit (ones c) c) (from a m),
+      same-flat (choicesBelow (suc c)) (λ n. hit (ones c) c n ++ choicesBelow c n) (λ n. below-more c n) (from a m),
+      flat-sum (hit (ones c) c) (choicesBelow c) (from a m),
       one-hit (ones c) c a m,
       below-length c a m,
     )

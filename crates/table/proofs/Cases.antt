@@ -1,10 +1,11 @@
 -- One law for the starred cases: each row has a test that antt computes, and a test that passes makes its row right.
 use Prim.Native.Nat.{ℕ, zero, suc, _+_, _<_}
 use mathlib.Core.Path.{_≡_, refl, ap₂}
-use mathlib.Core.Bool.{Bool, true, false, _&&_, Bool·beq}
+use mathlib.Core.Bool.{Bool, true, false, _&&_, Bool·beq, decide}
 use mathlib.Core.List.{List, [], _∷_}
 use mathlib.Core.Logic.{_↔_, Iff·rfl, Iff·symm, Iff·trans}
 use native.Mathlib.Nat.{add-zero, zero-add}
+use native.Mathlib.Decide.{ℕ-discrete}
 use native.Mathlib.Omega.{arith}
 use lib.ListN.{length, getD}
 use lib.Dec.{T, eqb, eqb→eq}
@@ -83,7 +84,7 @@ test-right (class t b) h = eqb→eq (classByte (rule (body t))) b h
 test-right (judged t r bs) h = λ i l. Iff·trans (Iff·symm (truth-holds r (rule (body t)) i)) (rw zero-add at (match-at (truth r (rule (body t))) 0 bs h i l))
 
 all-pass : T (allPass test starred)
-unfolding allPass test sameList isRefusal matches normalTable plainTable fixpoints rule formulas formulasAfter formulaOf wordFormula kind left right pack shape tableOf build put find findFrom normalForm choices choicesOf part chosen leastOf greatestOf steady recurring opening same ones onesIn negation.plain classByte isWritten classOf headerOf isMisheaded headedChecked headedChecks wordsChecks wordChecks useChecks limitChecks fixpointChecks uses used occurs truth sweep word place letterIn bit
+unfolding allPass test sameList isRefusal matches normalTable plainTable fixpoints rule formulas formulasAfter formulaOf wordFormula kind left right pack shape tableOf build put find findFrom normalForm choices choicesOf part chosen leastOf greatestOf steady recurring opening same ones onesIn negation.plain classByte isWritten classOf headerOf isMisheaded headedChecked headedChecks wordsChecks wordChecks useChecks limitChecks fixpointChecks uses used occurs truth sweep word place letterIn bit decide ℕ-discrete
 all-pass = tt
 
 -- every starred case holds

@@ -1,5 +1,6 @@
 //! The normal form: a part for each choice of until-like words, by three rewritings (document 01, after sections 5 and 6 of 002).
 use crate::forest::{Forest, Node, Tree};
+use std::cmp::Reverse;
 use std::collections::{BTreeSet, HashMap};
 
 /// The normal form of a rule, given its until-like subtrees in rising word number.
@@ -16,10 +17,10 @@ pub fn normal(forest: &mut Forest, rule: Tree, until_like: &[Tree]) -> Tree {
     form.expect("there is a choice of nothing")
 }
 
-/// Choices of k words: fewer chosen words first, equal counts by lower number.
+/// Choices of k words: fewer chosen words first, equal counts by higher number (document 02, N7).
 fn in_order(k: usize) -> Vec<u32> {
     let mut choices: Vec<u32> = (0..1 << k).collect();
-    choices.sort_by_key(|c| (c.count_ones(), *c));
+    choices.sort_by_key(|c| (c.count_ones(), Reverse(*c)));
     choices
 }
 

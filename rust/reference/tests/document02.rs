@@ -253,3 +253,16 @@ fn the_place_of_11_is_the_first_word_over_the_limit() {
     let finally = [0x0000_0002, 0x3000_0001, 0xD000_0001];
     assert_eq!(told(form(&finally, house(64, 0), &mut [7; 131], &mut [])), (11, 3));
 }
+
+// N7: of equally many chosen words the higher choice number comes first, so that the outer word's part does.
+#[test]
+fn outer_words_come_first_among_equals() {
+    // G F p1: word 4 is the inner U, word 5 the outer R
+    let table = [0x0018_0005, 0x1000_0000, 0x2000_0000, 0x3000_0001, 0x8000_8003, 0xA000_4004];
+    let mut result = [0; 64];
+    let length = normal(&table, Limits::DESK, &mut result).unwrap();
+    let words = &result[1..length];
+    // the last conjunct of a part is F G for a chosen R, and G F for a chosen U
+    let conjuncts = words.iter().filter(|&word| word >> 28 == 5).map(|word| words[(word & 0x3FFF) as usize - 1] >> 28);
+    assert_eq!(conjuncts.take(2).collect::<Vec<_>>(), [8, 10]);
+}

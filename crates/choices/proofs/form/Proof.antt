@@ -6,7 +6,7 @@ use native.Mathlib.Omega.{arith}
 use Rattle.placing.specs.State.{state}
 use Rattle.filling.specs.Filled.{Laid}
 use Rattle.choices.specs.Growing.{disjoined, Grown}
-use Rattle.choices.proofs.Growth.{placing-small, grown-same, grown-then, ready-first, ready-again}
+use Rattle.choices.proofs.Growth.{placing-small, grown-same, ready-first, ready-again}
 use Rattle.normal_laws.proofs.ChoiceOrder.{upTo}
 use Rattle.choices.proofs.ChoiceOrder.{ones-grown, form-placed, shifted}
 use Rattle.choices.proofs.form.Statement.{statement}
@@ -53,7 +53,7 @@ loop-again c =
       call .kept .1 .1 .1 .1 .1 .1 .1 .0 ∙ inv .5,
       call .kept .1 .1 .1 .1 .1 .1 .1 .1 .0 ∙ inv .6,
       call .ensures .1,
-      grown-then (inv .8) (ones-grown _ _ (c .before .before .before .before .before .before .before .before .before .before .before .before .before .before .before .before .before .loop .ones) (inv .0) (shifted _ (c .before .before .before .before .before .before .before .before .before .before .before .before .before .before .before .before .before .before .before .before .before .before .before .before .before .before .before .before .before .before .before .before .before .before .before .before .before .before .before .before .before .before .before .before .before .pre .few)) (call .ensures .0)),
+      ones-grown _ _ (c .before .before .before .before .before .before .before .before .before .before .before .before .before .before .before .before .before .loop .ones) (inv .0) (shifted _ (c .before .before .before .before .before .before .before .before .before .before .before .before .before .before .before .before .before .before .before .before .before .before .before .before .before .before .before .before .before .before .before .before .before .before .before .before .before .before .before .before .before .before .before .before .before .pre .few)) (inv .8) (call .ensures .0),
     )
 
 returns : tie.Need-returns Inv-loop μ-loop

@@ -9,7 +9,7 @@ use lib.Count.{ones, ones-le}
 use lib.Dec.{eqb, eqb-refl}
 use Rattle.logic.specs.Formula.{Formula}
 use Rattle.logic.specs.NormalForm.{keep, chosen, choicesOf, choices}
-use Rattle.logic.proofs.Normal.Membership.{keep-mem, mem-joinAll, mem-from}
+use Rattle.logic.proofs.Normal.Membership.{keep-mem, mem-joinAll, mem-from, mem-below}
 
 -- the choice of the formulas that pass a test
 pub choiceBy : (Formula → Bool) → List Formula → ℕ
@@ -49,5 +49,5 @@ choice-below p (ψ ∷ ψs) =
 pub mem-choices : (k c : ℕ) → c < 2 ^ k → List·Memᴰ c (choices k)
 unfolding choices choicesOf
 mem-choices k c h =
-    mem-joinAll (keep-mem (λ d. eqb (ones d) (ones c)) (eqb-refl (ones c)) (mem-from 0 (2 ^ k) c (omega arith) (omega arith)))
+    mem-joinAll (keep-mem (λ d. eqb (ones d) (ones c)) (eqb-refl (ones c)) (mem-below (2 ^ k) c h))
     (Memᴰ·map (choicesOf k) (mem-from 0 (suc k) (ones c) (omega arith) (omega (arith, ones-le k c h))))

@@ -1,4 +1,4 @@
--- Membership in the lists of a normal form: the test `member`, the kept elements, the numbers from one on, joined lists.
+-- Membership in the lists of a normal form: the test `member`, the kept elements, the numbers from one on and below one, joined lists.
 use Prim.Native.Nat.{ℕ, zero, suc, _+_, _≤_, _<_}
 use native.Mathlib.Nat.{eq-or-lt-of-le}
 use native.Mathlib.Omega.{arith}
@@ -9,7 +9,7 @@ use mathlib.Core.List.{List, [], _∷_, List·Memᴰ, List·Memᴰ·head, List·
 use native.Mathlib.Decide.{ℕ-discrete}
 use lib.Dec.{T}
 use Rattle.logic.specs.Formula.{Formula, same, Formula-discrete, Unary-discrete, Binary-discrete}
-use Rattle.logic.specs.NormalForm.{isFixpoint, keep, member, from, joinAll}
+use Rattle.logic.specs.NormalForm.{isFixpoint, keep, member, from, below, joinAll}
 use Rattle.logic.specs.Subformula.{Sub, Numbers}
 use Rattle.logic.proofs.Tests.{T-or}
 
@@ -75,6 +75,14 @@ mem-from a (suc n) c h k = go (eq-or-lt-of-le h) (λ l. mem-from (suc a) n c l (
     go : (a ≡ c) ⊎ (a < c) → (a < c → List·Memᴰ c (from (suc a) n)) → List·Memᴰ c (from a (suc n))
     go (inl e) ih = List·Memᴰ·head (sym e)
     go (inr l) ih = List·Memᴰ·tail (ih l)
+
+pub mem-below : (n c : ℕ) → c < n → List·Memᴰ c (below n)
+mem-below zero c h = absurd (omega arith)
+mem-below (suc n) c h = go (ℕ-discrete c n) (λ l. mem-below n c l)
+  where
+    go : Dec (c ≡ n) → (c < n → List·Memᴰ c (below n)) → List·Memᴰ c (below (suc n))
+    go (yes e) ih = List·Memᴰ·head e
+    go (no f) ih = List·Memᴰ·tail (ih (omega arith))
 
 -- the fixpoints of a list that has every subformula of φ and nothing else
 pub numbers-keep : {φ : Formula} (l : List Formula) → ((ψ : Formula) → Sub ψ φ → List·Memᴰ ψ l)
