@@ -1,5 +1,5 @@
 -- How the form of a word stands in a draft once those of its operands do, by the word's kind.
-use Prim.Native.Nat.{ℕ, _<_}
+use Prim.Native.Nat.{ℕ, _<_, _≤_}
 use native.Mathlib.Omega.{arith}
 use mathlib.Core.Path.{_≡_, refl, sym, ap, subst, _∙_}
 use mathlib.Core.Bool.{Bool, true, not}
@@ -7,7 +7,7 @@ use mathlib.Core.List.{List}
 use lib.ListN.{getD, set}
 use Rattle.logic.specs.Formula.{Formula, Unary, Binary, un, bin, next, neg, finally, globally, disj, until, release, implies}
 use Rattle.logic.specs.NegationNormalForm as form
-use Rattle.table.specs.Node.{shape, unaryKind, binaryKind, leftField, rightField, kindOf}
+use Rattle.table.specs.Node.{shape, unaryKind, binaryKind, leftField, kindOf}
 use Rattle.table.specs.Table.{formulas, formulaOf}
 use Rattle.table.specs.Checks.{isOperand}
 use Rattle.table.proofs.Shapes.{shape-unary, shape-binary, kindOf-shape}
@@ -17,23 +17,21 @@ use Rattle.draft.proofs.Drafts.{slot-set}
 use Rattle.source.specs.Kinds.{signedKind}
 use Rattle.source.specs.Source.{Earlier, WordAt}
 use Rattle.plain_draft.specs.Forming.{formOf, slotOf, Asked, Formed}
-use Rattle.plain_draft.proofs.Shapes.{leaf-by, IsOperator, Operator, operator-by}
+use Rattle.plain_draft.proofs.Shapes.{right-by, leaf-by, IsOperator, Operator, operator-by}
 use Rattle.plain_draft.proofs.Filling.{slot-bounds, slot-inside, drafted-kept, stored-form, formed-then, asked-then, constant-form, constant-formed}
 
--- where the operands of a word stand, and its form, by the operator that its kind stands for
-module _ (u : Unary) {t : List ℕ} {j k l r : ℕ} (word : WordAt t j k l r) (e : k ≡ unaryKind u) where
-  pub right-unary : Earlier r j
-  right-unary = word .right-operand (ap (λ (n : ℕ). isOperand (rightField (shape n))) e ∙ rw (shape-unary u))
+-- all but constants and letters have a right operand
+pub right-earlier : {t : List ℕ} {j k l r : ℕ} → WordAt t j k l r → 5 ≤ k → Earlier r j
+right-earlier {k = k} word h = word .right-operand (right-by (shape k) (omega (arith, kindOf-shape k (word .below))))
 
+-- the form of a word, by the operator that its kind stands for
+module _ (u : Unary) {t : List ℕ} {j k l r : ℕ} (word : WordAt t j k l r) (e : k ≡ unaryKind u) where
   unary-of : (p : Bool) → formOf p t j ≡ form.plain p (un u (formulaOf (formulas t) r))
   unary-of p = ap (form.plain p) (word .formula ∙ rw (e, shape-unary u))
 
 module _ (b : Binary) {t : List ℕ} {j k l r : ℕ} (word : WordAt t j k l r) (e : k ≡ binaryKind b) where
   pub left-binary : Earlier l j
   left-binary = word .left-operand (ap (λ (n : ℕ). isOperand (leftField (shape n))) e ∙ rw (shape-binary b))
-
-  pub right-binary : Earlier r j
-  right-binary = word .right-operand (ap (λ (n : ℕ). isOperand (rightField (shape n))) e ∙ rw (shape-binary b))
 
   binary-of : (p : Bool) → formOf p t j ≡ form.plain p (bin b (formulaOf (formulas t) l) (formulaOf (formulas t) r))
   binary-of p = ap (form.plain p) (word .formula ∙ rw (e, shape-binary b))
@@ -44,9 +42,6 @@ operator p {k = k} w c = operator-by p (shape k) (rw (kindOf-shape k (w .below))
 
 pub left-operator : {t : List ℕ} {j k l r : ℕ} → WordAt t j k l r → IsOperator k → Earlier l j
 left-operator w c = w .left-operand (operator true w c .left-operand)
-
-pub right-operator : {t : List ℕ} {j k l r : ℕ} → WordAt t j k l r → IsOperator k → Earlier r j
-right-operator w c = w .right-operand (operator true w c .right-operand)
 
 -- word j, read, for its form (true) or that of its denial (false), whose slot is empty
 module _ {p : Bool} {t d : List ℕ} {j k l r : ℕ} (asked : Asked t d j) (word : WordAt t j k l r) (empty : getD d (slotOf p j) 0 ≡ 0) where
@@ -64,7 +59,7 @@ module _ {p : Bool} {t d : List ℕ} {j k l r : ℕ} (asked : Asked t d j) (word
   pub not-formed : {e : List ℕ} {x : ℕ} → k ≡ 12 → Formed (not p) t r d e x → Formed p t j d e x
   unfolding form.plain
   not-formed h f =
-      let b = right-unary neg word h in
+      let b = right-earlier word (omega arith) in
       record {
         drafted = rw (unary-of neg word h p) (f .drafted);
         below = omega (arith, f .below, b .below);
@@ -78,7 +73,7 @@ module _ {p : Bool} {t d : List ℕ} {j k l r : ℕ} (asked : Asked t d j) (word
   pub next-formed : {e f : List ℕ} {b x : ℕ} → k ≡ 7 → Formed p t r d e b → Stored e f (slotOf p j) (pack 7 0 b) x → Formed p t j d f x
   unfolding form.plain
   next-formed {e} {f} {b} {x} h g q =
-      let m = right-unary next word h in
+      let m = right-earlier word (omega arith) in
       let s = slot-bounds p j in
       let z : getD e (slotOf p j) 0 ≡ 0 = g .later (slotOf p j) (omega (arith, m .below)) ∙ empty in
       formed-then g (omega (arith, m .below)) (
@@ -92,9 +87,9 @@ module _ {p : Bool} {t d : List ℕ} {j k l r : ℕ} (asked : Asked t d j) (word
       )
       )
 
-  -- an operator over the forms of two words, of which word 0 may be one
+  -- an operator over the forms of two words, of which word 0 may be the left one; the right one's comes first
   binary-formed : {q : Bool} {e f g : List ℕ} {a b m n x y : ℕ} (w : Binary) → formOf p t j ≡ bin w (formOf q t m) (formOf p t n) → m < j → n < j
-      → Formed q t m d e a → Formed p t n e f b → x ≡ binaryKind w → Stored f g (slotOf p j) (pack x a b) y → Formed p t j d g y
+      → Formed p t n d e b → Formed q t m e f a → x ≡ binaryKind w → Stored f g (slotOf p j) (pack x a b) y → Formed p t j d g y
   binary-formed {q} {e} {f} {g} {a} {b} {m} {n} {x} {y} w φ hm hn u v c k =
       let s = slot-bounds p j in
       let z : getD f (slotOf p j) 0 ≡ 0 = v .later (slotOf p j) (omega arith) ∙ u .later (slotOf p j) (omega arith) ∙ empty in
@@ -104,10 +99,10 @@ module _ {p : Bool} {t d : List ℕ} {j k l r : ℕ} (asked : Asked t d j) (word
       rw φ (
         a,
         b,
-        omega (arith, u .below),
         omega (arith, v .below),
-        drafted-kept f (slotOf p j) (pack x a b) z (formOf q t m) a (v .kept (formOf q t m) a (u .drafted)),
-        drafted-kept f (slotOf p j) (pack x a b) z (formOf p t n) b (v .drafted),
+        omega (arith, u .below),
+        drafted-kept f (slotOf p j) (pack x a b) z (formOf q t m) a (v .drafted),
+        drafted-kept f (slotOf p j) (pack x a b) z (formOf p t n) b (v .kept (formOf p t n) b (u .drafted)),
         rw (← c) (slot-set f (slotOf p j) (pack x a b) (slot-inside p (asked-then (asked-then asked u) v))),
       )
       )
@@ -118,27 +113,27 @@ module _ {p : Bool} {t d : List ℕ} {j k l r : ℕ} (asked : Asked t d j) (word
   pub finally-formed : {e f : List ℕ} {b y : ℕ} → k ≡ 13 → Formed p t r d e b
       → Stored e f (slotOf p j) (pack (binaryKind (form.signed p until)) (slotOf (not p) 0) b) y → Formed p t j d f y
   unfolding form.plain
-  finally-formed h v q =
-      let m = right-unary finally word h in
-      binary-formed (form.signed p until) (unary-of finally word h p ∙ rw (constant-form p t .1)) (omega (arith, m .below)) (m .below) (constant-formed (not p) asked) v refl q
+  finally-formed h u q =
+      let m = right-earlier word (omega arith) in
+      binary-formed (form.signed p until) (unary-of finally word h p ∙ rw (constant-form p t .1)) (omega (arith, m .below)) (m .below) u (constant-formed (not p) (asked-then asked u)) refl q
 
   pub globally-formed : {e f : List ℕ} {b y : ℕ} → k ≡ 14 → Formed p t r d e b
       → Stored e f (slotOf p j) (pack (binaryKind (form.signed p release)) (slotOf p 0) b) y → Formed p t j d f y
   unfolding form.plain
-  globally-formed h v q =
-      let m = right-unary globally word h in
-      binary-formed (form.signed p release) (unary-of globally word h p ∙ rw (constant-form p t .0)) (omega (arith, m .below)) (m .below) (constant-formed p asked) v refl q
+  globally-formed h u q =
+      let m = right-earlier word (omega arith) in
+      binary-formed (form.signed p release) (unary-of globally word h p ∙ rw (constant-form p t .0)) (omega (arith, m .below)) (m .below) u (constant-formed p (asked-then asked u)) refl q
 
   -- a implies b is (denial of a) or b
-  pub implies-formed : {e f g : List ℕ} {a b y : ℕ} → k ≡ 15 → Formed (not p) t l d e a → Formed p t r e f b
+  pub implies-formed : {e f g : List ℕ} {a b y : ℕ} → k ≡ 15 → Formed p t r d e b → Formed (not p) t l e f a
       → Stored f g (slotOf p j) (pack (binaryKind (form.signed p disj)) a b) y → Formed p t j d g y
   unfolding form.plain
-  implies-formed h u v q = binary-formed (form.signed p disj) (binary-of implies word h p) (left-binary implies word h .below) (right-binary implies word h .below) u v refl q
+  implies-formed h u v q = binary-formed (form.signed p disj) (binary-of implies word h p) (left-binary implies word h .below) (right-earlier word (omega arith) .below) u v refl q
 
   -- and, or, U, W, R and M
-  pub operator-formed : {e f g : List ℕ} {a b x y : ℕ} → IsOperator k → x ≡ signedKind p k → Formed p t l d e a → Formed p t r e f b
+  pub operator-formed : {e f g : List ℕ} {a b x y : ℕ} → IsOperator k → x ≡ signedKind p k → Formed p t r d e b → Formed p t l e f a
       → Stored f g (slotOf p j) (pack x a b) y → Formed p t j d g y
   unfolding signedKind
   operator-formed c z u v q =
       let w = operator p word c in
-      binary-formed (w .operator) (ap (form.plain p) (word .formula) ∙ w .form r (formulaOf (formulas t) l) (formulaOf (formulas t) r)) (left-operator word c .below) (right-operator word c .below) u v (z ∙ w .kinded) q
+      binary-formed (w .operator) (ap (form.plain p) (word .formula) ∙ w .form r (formulaOf (formulas t) l) (formulaOf (formulas t) r)) (left-operator word c .below) (right-earlier word (c .above) .below) u v (z ∙ w .kinded) q

@@ -45,6 +45,16 @@ kind-positive s h = go (kindOf s) (shape-kindOf s)
     go zero e = absurd (subst (λ (x : Shape). T (isWord x)) (sym e) h)
     go (suc k) e = omega arith
 
+-- all but constants and letters have a right operand
+pub right-by : (s : Shape) → 5 ≤ kindOf s → isOperand (rightField s) ≡ true
+right-by none h = absurd (omega arith)
+right-by (constant true) h = absurd (omega arith)
+right-by (constant false) h = absurd (omega arith)
+right-by (letter true) h = absurd (omega arith)
+right-by (letter false) h = absurd (omega arith)
+right-by (unary o) h = refl
+right-by (binary o) h = refl
+
 -- the form of a constant or a letter, at a slot with its signed kind and its field
 pub leaf-by : (p : Bool) (s : Shape) (n : ℕ) (a b : Formula) {d : List ℕ} {i : ℕ} → 0 < kindOf s → kindOf s < 5
     → n < 16384
@@ -76,12 +86,12 @@ pub record IsOperator (k : ℕ) : Type 0 where
   pub no-globally : k ≡ 14 → ⊥
   pub no-implies : k ≡ 15 → ⊥
 
--- as the last arm of a match on the kind is reached
-pub last-arm : {A : Type 0} {k : ℕ} → 5 ≤ k → ((((A × (k ≡ 7 → ⊥)) × (k ≡ 12 → ⊥)) × (k ≡ 13 → ⊥)) × (k ≡ 14 → ⊥)) × (k ≡ 15 → ⊥) → IsOperator k
-last-arm h rest = record {
+-- as the last arm of the match on the kind is reached
+pub last-arm : {A : Type 0} {k : ℕ} → 5 ≤ k → (k ≡ 12 → ⊥) → (((A × (k ≡ 7 → ⊥)) × (k ≡ 13 → ⊥)) × (k ≡ 14 → ⊥)) × (k ≡ 15 → ⊥) → IsOperator k
+last-arm h n rest = record {
   above = h;
-  no-next = rest .0 .0 .0 .0 .1;
-  no-not = rest .0 .0 .0 .1;
+  no-next = rest .0 .0 .0 .1;
+  no-not = n;
   no-finally = rest .0 .0 .1;
   no-globally = rest .0 .1;
   no-implies = rest .1;
@@ -93,10 +103,9 @@ pub record Operator (p : Bool) (s : Shape) : Type 0 where
   pub kinded : kindOf (signed p s) ≡ binaryKind operator
   pub form : (n : ℕ) (a b : Formula) → form.plain p (formulaBy s n a b) ≡ bin operator (form.plain p a) (form.plain p b)
   pub left-operand : isOperand (leftField s) ≡ true
-  pub right-operand : isOperand (rightField s) ≡ true
 
 signed-operator : (p : Bool) (o : Binary) → ((a b : Formula) → form.plain p (bin o a b) ≡ bin (form.signed p o) (form.plain p a) (form.plain p b)) → Operator p (binary o)
-signed-operator p o f = record { operator = form.signed p o; kinded = refl; form = λ n a b. f a b; left-operand = refl; right-operand = refl }
+signed-operator p o f = record { operator = form.signed p o; kinded = refl; form = λ n a b. f a b; left-operand = refl }
 
 pub operator-by : (p : Bool) (s : Shape) → IsOperator (kindOf s) → Operator p s
 unfolding form.plain

@@ -23,31 +23,26 @@ pub fn wanted(table: &[u32], draft: &mut [u64], j: usize) -> usize
     let kind = w.kind;
     let left = w.left;
     let right = w.right;
-    match kind {
-        1..=4 => slot::store(draft, slot, kind, 0, right),
-        7 => {
-            let b = wanted(table, draft, right);
-            slot::store(draft, slot, 7, 0, b)
+    if kind < 5 {
+        return slot::store(draft, slot, kind, 0, right);
+    }
+    if kind != 12 {
+        let b = wanted(table, draft, right);
+        match kind {
+            7 => slot::store(draft, slot, 7, 0, b),
+            13 => slot::store(draft, slot, 8, TRUE, b),
+            14 => slot::store(draft, slot, 10, FALSE, b),
+            15 => {
+                let premise = denied(table, draft, left);
+                slot::store(draft, slot, 6, premise, b)
+            }
+            _ => {
+                let a = wanted(table, draft, left);
+                slot::store(draft, slot, kind, a, b)
+            }
         }
-        12 => denied(table, draft, right),
-        13 => {
-            let b = wanted(table, draft, right);
-            slot::store(draft, slot, 8, TRUE, b)
-        }
-        14 => {
-            let b = wanted(table, draft, right);
-            slot::store(draft, slot, 10, FALSE, b)
-        }
-        15 => {
-            let premise = denied(table, draft, left);
-            let conclusion = wanted(table, draft, right);
-            slot::store(draft, slot, 6, premise, conclusion)
-        }
-        _ => {
-            let a = wanted(table, draft, left);
-            let b = wanted(table, draft, right);
-            slot::store(draft, slot, kind, a, b)
-        }
+    } else {
+        denied(table, draft, right)
     }
 }
 
@@ -64,30 +59,25 @@ pub fn denied(table: &[u32], draft: &mut [u64], j: usize) -> usize
     let kind = w.kind;
     let left = w.left;
     let right = w.right;
-    match kind {
-        1..=4 => slot::store(draft, slot, kinds::dual(kind), 0, right),
-        7 => {
-            let b = denied(table, draft, right);
-            slot::store(draft, slot, 7, 0, b)
+    if kind < 5 {
+        return slot::store(draft, slot, kinds::dual(kind), 0, right);
+    }
+    if kind != 12 {
+        let b = denied(table, draft, right);
+        match kind {
+            7 => slot::store(draft, slot, 7, 0, b),
+            13 => slot::store(draft, slot, 10, FALSE, b),
+            14 => slot::store(draft, slot, 8, TRUE, b),
+            15 => {
+                let premise = wanted(table, draft, left);
+                slot::store(draft, slot, 5, premise, b)
+            }
+            _ => {
+                let a = denied(table, draft, left);
+                slot::store(draft, slot, kinds::dual(kind), a, b)
+            }
         }
-        12 => wanted(table, draft, right),
-        13 => {
-            let b = denied(table, draft, right);
-            slot::store(draft, slot, 10, FALSE, b)
-        }
-        14 => {
-            let b = denied(table, draft, right);
-            slot::store(draft, slot, 8, TRUE, b)
-        }
-        15 => {
-            let premise = wanted(table, draft, left);
-            let conclusion = denied(table, draft, right);
-            slot::store(draft, slot, 5, premise, conclusion)
-        }
-        _ => {
-            let a = denied(table, draft, left);
-            let b = denied(table, draft, right);
-            slot::store(draft, slot, kinds::dual(kind), a, b)
-        }
+    } else {
+        wanted(table, draft, right)
     }
 }

@@ -4,10 +4,9 @@ use Prim.Native.Nat.{ℕ, _<_}
 use native.Mathlib.Omega.{arith}
 use borrow.Author.Needs.{needs}
 use Rattle.logic.specs.Formula.{next, neg, finally, globally, implies}
-use mathlib.Core.Logic.{⊎-elim}
 use mathlib.Core.Bool.{true, false}
 use Rattle.plain_draft.proofs.Filling.{asked-after, known-formed, earlier-falls, asked-earlier}
-use Rattle.plain_draft.proofs.Forming.{right-unary, left-binary, right-binary, left-operator, right-operator, leaf-formed, not-formed, next-formed, finally-formed, globally-formed, implies-formed, operator-formed}
+use Rattle.plain_draft.proofs.Forming.{right-earlier, left-binary, left-operator, leaf-formed, not-formed, next-formed, finally-formed, globally-formed, implies-formed, operator-formed}
 use Rattle.plain_draft.proofs.Shapes.{wanted-kind, IsOperator, last-arm}
 use borrow.Fn.Kinds.{In}
 use borrow.Fn.PlainCycle.{Measures, is, falls, and}
@@ -42,17 +41,21 @@ abbrev wanted-below : ℕ → In 2 wanted-kinds.ps
 wanted-below t = and 2 wanted-kinds.ps (falls 2 wanted-kinds.ps _<_ μ-wanted t) wanted.Pre
 
 abbrev denied-callees : ℕ → denied-lts.Claims
-denied-callees t = (read-reads.Asked, read-reads.Learnt, denied-below t, denied.Post, store-reads.Asked, store-reads.Learnt, wanted-below t, wanted.Post, dual-reads.Asked, dual-reads.Learnt)
+denied-callees t = (read-reads.Asked, read-reads.Learnt, dual-reads.Asked, dual-reads.Learnt, store-reads.Asked, store-reads.Learnt, denied-below t, denied.Post, wanted-below t, wanted.Post)
 
 abbrev wanted-callees : ℕ → wanted-lts.Claims
-wanted-callees t = (read-reads.Asked, read-reads.Learnt, wanted-below t, wanted.Post, store-reads.Asked, store-reads.Learnt, denied-below t, denied.Post)
+wanted-callees t = (read-reads.Asked, read-reads.Learnt, store-reads.Asked, store-reads.Learnt, wanted-below t, wanted.Post, denied-below t, denied.Post)
 
 -- the last arm is that of the operators
-denied-operator : (t : ℕ) (c : denied-lts.Joined2 (denied-callees t) (denied-at t) denied.Post) → IsOperator (c .before .before .read .result .kind)
-denied-operator t c = last-arm (⊎-elim (λ w. omega (arith, c .before .before .read .ensures .positive)) (λ w. w .1 .left) (c .if2 .came)) (c .before .match .rest)
+denied-operator : (t : ℕ) (c : denied-lts.At-match-rest (denied-callees t) (denied-at t) denied.Post) → IsOperator (c .before .before .before .before .before .before .before .read .result .kind)
+denied-operator t c =
+    let past = c .before .before .before .before .before in
+    last-arm (past .before .if2 .left) (past .if3 .taken) (c .match .rest)
 
-wanted-operator : (t : ℕ) (c : wanted-lts.Joined2 (wanted-callees t) (wanted-at t) wanted.Post) → IsOperator (c .before .before .read .result .kind)
-wanted-operator t c = last-arm (⊎-elim (λ w. omega (arith, c .before .before .read .ensures .positive)) (λ w. w .1 .left) (c .if2 .came)) (c .before .match .rest)
+wanted-operator : (t : ℕ) (c : wanted-lts.At-match-rest (wanted-callees t) (wanted-at t) wanted.Post) → IsOperator (c .before .before .before .before .before .before .before .read .result .kind)
+wanted-operator t c =
+    let past = c .before .before .before .before .before in
+    last-arm (past .before .if2 .left) (past .if3 .taken) (c .match .rest)
 
 pub +denied+wanted-spec : {M : Type 1} → statement M
 +denied+wanted-spec = close μ-denied μ-wanted (λ t. denied-lts.spec (denied-callees t)
@@ -65,28 +68,25 @@ pub +denied+wanted-spec : {M : Type 1} → statement M
     (λ c. omega arith)
     (λ c. search (known-formed false))
     (λ c κs. search needs)
-    -- the calls and the stores of X, not, F, G, implies, constants and letters, and the operators
-    (λ c κs. search (earlier-falls, asked-earlier, right-unary next))
+    -- constants and letters
     (λ c κs. search needs)
-    (λ c κs. search (earlier-falls, asked-earlier, right-unary neg))
-    (λ c κs. search (earlier-falls, asked-earlier, right-unary finally))
     (λ c κs. search needs)
-    (λ c κs. search (earlier-falls, asked-earlier, right-unary globally))
-    (λ c κs. search needs)
-    (λ c κs. search (earlier-falls, asked-earlier, left-binary implies, right-binary implies))
-    (λ c κs. (search (earlier-falls, left-binary implies, right-binary implies), search (asked-after, left-binary implies, right-binary implies)))
+    (λ c. search needs)
+    (λ c. search leaf-formed)
+    -- the right operand, and the other calls and stores of X, F, G, implies and the operators; the operand of not
+    (λ c κs. search (earlier-falls, asked-earlier, right-earlier))
     (λ c κs. search needs)
     (λ c κs. search needs)
     (λ c κs. search needs)
-    (λ c κs. search (earlier-falls, asked-earlier, left-operator, right-operator, denied-operator t))
-    (λ c κs. (search (earlier-falls, left-operator, right-operator, denied-operator t), search (asked-after, left-operator, right-operator, denied-operator t)))
+    (λ c κs. (search (earlier-falls, left-binary implies), search (asked-after, left-binary implies)))
+    (λ c κs. search needs)
+    (λ c κs. (search (earlier-falls, left-operator, denied-operator t), search (asked-after, left-operator, denied-operator t)))
     (λ c κs. search needs)
     (λ c κs. search needs)
-    -- what each of these arms ends with
+    (λ c κs. search (earlier-falls, asked-earlier, right-earlier))
+    -- what each of these ends with
     (λ c. search needs)
     (λ c. search next-formed)
-    (λ c. search needs)
-    (λ c. search not-formed)
     (λ c. search needs)
     (λ c. search finally-formed)
     (λ c. search needs)
@@ -94,9 +94,9 @@ pub +denied+wanted-spec : {M : Type 1} → statement M
     (λ c. search needs)
     (λ c. search implies-formed)
     (λ c. search needs)
-    (λ c. search leaf-formed)
+    (λ c. search (operator-formed, denied-operator t))
     (λ c. search needs)
-    (λ c. search (operator-formed, denied-operator t)))
+    (λ c. search not-formed))
     λ t. wanted-lts.spec (wanted-callees t)
     (wanted-at t)
     wanted.Post
@@ -106,26 +106,23 @@ pub +denied+wanted-spec : {M : Type 1} → statement M
     (λ c. omega arith)
     (λ c. search (known-formed true))
     (λ c κs. search needs)
-    -- the calls and the stores of X, not, F, G, implies, constants and letters, and the operators
-    (λ c κs. search (earlier-falls, asked-earlier, right-unary next))
+    -- constants and letters
     (λ c κs. search needs)
-    (λ c κs. search (earlier-falls, asked-earlier, right-unary neg))
-    (λ c κs. search (earlier-falls, asked-earlier, right-unary finally))
-    (λ c κs. search needs)
-    (λ c κs. search (earlier-falls, asked-earlier, right-unary globally))
-    (λ c κs. search needs)
-    (λ c κs. search (earlier-falls, asked-earlier, left-binary implies, right-binary implies))
-    (λ c κs. (search (earlier-falls, left-binary implies, right-binary implies), search (asked-after, left-binary implies, right-binary implies)))
+    (λ c. search needs)
+    (λ c. search (wanted-kind, leaf-formed))
+    -- the right operand, and the other calls and stores of X, F, G, implies and the operators; the operand of not
+    (λ c κs. search (earlier-falls, asked-earlier, right-earlier))
     (λ c κs. search needs)
     (λ c κs. search needs)
-    (λ c κs. search (earlier-falls, asked-earlier, left-operator, right-operator, wanted-operator t))
-    (λ c κs. (search (earlier-falls, left-operator, right-operator, wanted-operator t), search (asked-after, left-operator, right-operator, wanted-operator t)))
     (λ c κs. search needs)
-    -- what each of these arms ends with
+    (λ c κs. (search (earlier-falls, left-binary implies), search (asked-after, left-binary implies)))
+    (λ c κs. search needs)
+    (λ c κs. (search (earlier-falls, left-operator, wanted-operator t), search (asked-after, left-operator, wanted-operator t)))
+    (λ c κs. search needs)
+    (λ c κs. search (earlier-falls, asked-earlier, right-earlier))
+    -- what each of these ends with
     (λ c. search needs)
     (λ c. search next-formed)
-    (λ c. search needs)
-    (λ c. search not-formed)
     (λ c. search needs)
     (λ c. search finally-formed)
     (λ c. search needs)
@@ -133,6 +130,6 @@ pub +denied+wanted-spec : {M : Type 1} → statement M
     (λ c. search needs)
     (λ c. search implies-formed)
     (λ c. search needs)
-    (λ c. search (wanted-kind, leaf-formed))
-    (λ c. search needs)
     (λ c. search (wanted-kind, operator-formed, wanted-operator t))
+    (λ c. search needs)
+    (λ c. search not-formed)
