@@ -13,15 +13,15 @@ use Rattle.table.specs.Numbering.{Placed, put, build}
 use Rattle.table.proofs.Fields.{kind-pack, left-pack}
 use Rattle.numbering.proofs.Building.{build-const, build-lit, build-un, build-bin, build-grows, build-held, held-within, build-length}
 use Rattle.signs.specs.declared.Sign.{Sign}
-use Rattle.scanning.specs.declared.reader.Turn.{Turn}
-use Rattle.scanning.specs.declared.reader.Turn.the-variants as turns
+use Rattle.turns.specs.declared.Turn.{Turn}
+use Rattle.turns.specs.declared.Turn.the-variants as turns
 use Rattle.grammar.specs.Grammar.{Symbol, constant, letter, prefix, operator, open-bracket, close-bracket}
 use Rattle.grammar.specs.Reader.{Open, waiting, bracket, joined, Config, operand, ended, stuck, settle, join, close, shift, Mark, blank, begins, begins-letter, unknown, otherBytes, markOf, State, inside, lettered, dead, going, alive, ofLetter, beginLetter, begin, isDigit, grown, step}
 use Rattle.signs.specs.Signed.{packed, signed}
 use Rattle.settling.specs.Settled.{Ended, isPrefix, settleWords}
-use Rattle.scanning.specs.Numbers.{Words, words, stuckWords, endedWords, beginWords, joinWords, closeWords, followWords, followEnded, digitWords, letterWords, turnWords, stepWords}
-use Rattle.scanning.specs.Numbers.{size}
-use Rattle.scanning.proofs.Sizes.{put-size}
+use Rattle.turns.specs.Numbers.{Words, words, stuckWords, endedWords, beginWords, joinWords, closeWords, followWords, followEnded, digitWords, letterWords, turnWords, stepWords}
+use Rattle.turns.specs.Numbers.{size}
+use Rattle.turns.proofs.Sizes.{put-size}
 use Rattle.grammar.proofs.Sound.{NoLetter, Known, mark-known}
 
 -- the words of what is open, and its stack

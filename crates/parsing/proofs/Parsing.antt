@@ -14,16 +14,16 @@ use Rattle.logic.specs.Formula.{Formula, lit}
 use Rattle.table.specs.Numbering.{build, tableOf}
 use Rattle.placing.specs.State as draft
 use Rattle.placing.proofs.Putting.{written-length}
-use Rattle.scanning.specs.declared.reader.Turn.{Turn}
-use Rattle.scanning.specs.declared.reader.Turn.the-variants as turns
-use Rattle.scanning.specs.declared.reader.Reader.{Reader}
+use Rattle.turns.specs.declared.Turn.{Turn}
+use Rattle.turns.specs.declared.Turn.the-variants as turns
+use Rattle.turns.specs.declared.Reader.{Reader}
 use Rattle.grammar.specs.Reader.{Open, waiting, bracket, joined, Config, operand, ended, stuck, settle, Mark, State, inside, lettered, dead, going, alive, ofLetter, begin, markOf, step, run, start, accepted, final, readingOf, departureFrom, departureOf}
 use Rattle.settling.specs.Settled.{topFirst, Room}
-use Rattle.scanning.specs.Numbers.{Words, words, endedWords, stepWords, viewed, size, Fit, Makes, isStuck, isEnded}
+use Rattle.turns.specs.Numbers.{Words, words, endedWords, stepWords, viewed, size, Fit, Makes, isStuck, isEnded}
 use Rattle.parsing.specs.Parsed.{Fresh, Parsed}
 use Rattle.grammar.proofs.Complete.{dead-none}
 use Rattle.settling.proofs.Settling.{top-length}
-use Rattle.scanning.proofs.Sizes.{step-size}
+use Rattle.turns.proofs.Sizes.{step-size}
 use Rattle.parsing.proofs.Imaging.{openStack, openTable, endedImage, ConfigImage, Image, Bytes, step-image}
 
 -- after i bytes: a state of the reader, whose image the code holds, that still leads to what the text is

@@ -1,10 +1,10 @@
 // A text read byte by byte: the place at which it departs from the grammar, or the words of its rule.
 use scanning::reader;
-use scanning::reader::Reader;
-use scanning::reader::Turn;
+use turns::Reader;
+use turns::Turn;
 ghost use mathlib.Core.Path.{_≡_};
 ghost use Rattle.placing.specs.State.{state};
-ghost use Rattle.scanning.specs.Numbers.{isStuck, isEnded};
+ghost use Rattle.turns.specs.Numbers.{isStuck, isEnded};
 ghost use Rattle.parsing.specs.Parsed.{Fresh, Parsed};
 
 fn is_stuck(t: Turn) -> bool

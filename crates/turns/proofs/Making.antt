@@ -13,16 +13,16 @@ use Rattle.table.specs.Node.{kind, left, pack}
 use Rattle.table.specs.Numbering.{put}
 use Rattle.placing.specs.State.{State, count, written, Numbered}
 use Rattle.signs.specs.declared.Sign.{Sign}
-use Rattle.scanning.specs.declared.reader.Turn.{Turn}
-use Rattle.scanning.specs.declared.reader.Turn.the-variants as turns
-use Rattle.scanning.specs.declared.reader.Reader.{Reader}
+use Rattle.turns.specs.declared.Turn.{Turn}
+use Rattle.turns.specs.declared.Turn.the-variants as turns
+use Rattle.turns.specs.declared.Reader.{Reader}
 use Rattle.settling.specs.declared.Operand.{Operand}
 use Rattle.logic.specs.Formula.{Unary, Binary, next, neg, finally, globally, conj, disj, until, weak, release, strong, implies}
 use Rattle.grammar.specs.Grammar.{Symbol, constant, letter, prefix, operator, open-bracket, close-bracket}
 use Rattle.grammar.specs.Reader.{Mark, blank, begins, begins-letter, unknown, markOf, isDigit}
 use Rattle.signs.specs.Signed.{signed, Kinded}
 use Rattle.settling.specs.Settled.{Ended, isPrefix, settleWords, topFirst, placedIn, Settles}
-use Rattle.scanning.specs.Numbers.{Words, words, stuckWords, endedWords, joinWords, closeWords, digitWords, letterWords, followEnded, stepWords, turnWords, viewed, Fit, Makes}
+use Rattle.turns.specs.Numbers.{Words, words, stuckWords, endedWords, joinWords, closeWords, digitWords, letterWords, followEnded, stepWords, turnWords, viewed, Fit, Makes}
 use Rattle.settling.proofs.Settling.{top-pop}
 
 abbrev pub stuckReader : ℕ → Reader

@@ -9,12 +9,12 @@ use Rattle.table.specs.Node.{kind, left, pack}
 use Rattle.table.specs.Numbering.{Placed, put}
 use Rattle.signs.specs.declared.Sign.{Sign}
 use Rattle.signs.specs.declared.Sign.the-variants.{Blank, Constant, Letter, Prefix, Operator, Open, Close, Unknown}
-use Rattle.scanning.specs.declared.reader.Turn.{Turn}
-use Rattle.scanning.specs.declared.reader.Turn.the-variants as turns
+use Rattle.turns.specs.declared.Turn.{Turn}
+use Rattle.turns.specs.declared.Turn.the-variants as turns
 use Rattle.grammar.specs.Reader.{markOf, isDigit}
 use Rattle.signs.specs.Signed.{signed}
 use Rattle.settling.specs.Settled.{Ended, isPrefix, settleWords}
-use Rattle.scanning.specs.Numbers.{Words, words, stuckWords, endedWords, beginWords, joinWords, closeWords, followWords, followEnded, digitWords, letterWords, turnWords, stepWords, size}
+use Rattle.turns.specs.Numbers.{Words, words, stuckWords, endedWords, beginWords, joinWords, closeWords, followWords, followEnded, digitWords, letterWords, turnWords, stepWords, size}
 use Rattle.settling.proofs.Settling.{put-few}
 
 -- of two, the larger

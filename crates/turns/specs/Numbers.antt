@@ -11,9 +11,9 @@ use Rattle.table.specs.Numbering.{Placed, put}
 use Rattle.placing.specs.State as draft
 use Rattle.signs.specs.declared.Sign.{Sign}
 use Rattle.signs.specs.declared.Sign.the-variants.{Blank, Constant, Letter, Prefix, Operator, Open, Close, Unknown}
-use Rattle.scanning.specs.declared.reader.Turn.{Turn}
-use Rattle.scanning.specs.declared.reader.Turn.the-variants as turns
-use Rattle.scanning.specs.declared.reader.Reader.{Reader}
+use Rattle.turns.specs.declared.Turn.{Turn}
+use Rattle.turns.specs.declared.Turn.the-variants as turns
+use Rattle.turns.specs.declared.Reader.{Reader}
 use Rattle.signs.specs.Signed.{signed}
 use Rattle.settling.specs.Settled.{isPrefix, Ended, settleWords, topFirst}
 use Rattle.grammar.specs.Reader.{markOf, isDigit}

@@ -7,7 +7,7 @@ use lib.ListN.{length}
 use borrow.Author.Needs.{needs}
 use Rattle.placing.specs.State.{state, Numbered}
 use Rattle.settling.specs.Settled.{Room}
-use Rattle.scanning.specs.Numbers.{viewed, Fit}
+use Rattle.turns.specs.Numbers.{viewed, Fit}
 use Rattle.settling.proofs.Settling.{top-length}
 use Rattle.parsing.proofs.Parsing.{Going, going-more, going-dead, going-read, going-early, going-room, fresh-going, departed, was-read}
 use Rattle.parsing.proofs.parse.Statement.{statement}

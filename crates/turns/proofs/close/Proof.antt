@@ -4,10 +4,10 @@ use native.Mathlib.Omega.{arith}
 use lib.ListN.{getD}
 use mathlib.Core.Path.{sym, _∙_}
 use Rattle.table.proofs.Fields.{kind-lt, left-lt}
-use Rattle.scanning.proofs.Making.{stuck-makes, end-makes, close-empty, close-bracket-only, close-prefix, close-made}
+use Rattle.turns.proofs.Making.{stuck-makes, end-makes, close-empty, close-bracket-only, close-prefix, close-made}
 use borrow.Author.Needs.{needs}
-use Rattle.scanning.proofs.reader.close.Statement.{statement}
-use Rattle.scanning.proofs.reader.close.Tie as tie
+use Rattle.turns.proofs.close.Statement.{statement}
+use Rattle.turns.proofs.close.Tie as tie
 
 stuck-requires : tie.Need-stuck-requires
 stuck-requires c κs = search needs

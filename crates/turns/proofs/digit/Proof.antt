@@ -1,10 +1,10 @@
 -- A number that is 0, one past 32, or a letter.
 use native.Mathlib.Omega.{arith}
 use mathlib.Core.Path.{refl}
-use Rattle.scanning.proofs.Making.{digit-out, digit-in, zero-out, large-out}
+use Rattle.turns.proofs.Making.{digit-out, digit-in, zero-out, large-out}
 use borrow.Author.Needs.{needs}
-use Rattle.scanning.proofs.reader.digit.Statement.{statement}
-use Rattle.scanning.proofs.reader.digit.Tie as tie
+use Rattle.turns.proofs.digit.Statement.{statement}
+use Rattle.turns.proofs.digit.Tie as tie
 
 stuck-requires : tie.Need-stuck-requires
 stuck-requires c κs = search needs

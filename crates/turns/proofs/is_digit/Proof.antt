@@ -1,8 +1,8 @@
 -- Both tests, one after the other.
 use mathlib.Core.Path.{sym}
 use borrow.Author.Tests.{le-leb, lt-leb}
-use Rattle.scanning.proofs.reader.is_digit.Statement.{statement}
-use Rattle.scanning.proofs.reader.is_digit.Tie as tie
+use Rattle.turns.proofs.is_digit.Statement.{statement}
+use Rattle.turns.proofs.is_digit.Tie as tie
 
 returns : tie.Need-returns
 returns c = simp (le-leb _ _ (c .if1 .taken))

@@ -1,9 +1,9 @@
 -- Nothing open, something else on top, or a bracket.
 use native.Mathlib.Omega.{arith}
-use Rattle.scanning.proofs.Making.{join-empty, join-other, join-made}
+use Rattle.turns.proofs.Making.{join-empty, join-other, join-made}
 use borrow.Author.Needs.{needs}
-use Rattle.scanning.proofs.reader.join.Statement.{statement}
-use Rattle.scanning.proofs.reader.join.Tie as tie
+use Rattle.turns.proofs.join.Statement.{statement}
+use Rattle.turns.proofs.join.Tie as tie
 
 stuck-requires : tie.Need-stuck-requires
 stuck-requires c κs = search needs

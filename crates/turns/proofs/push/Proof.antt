@@ -1,9 +1,9 @@
 -- An entry above the top.
 use native.Mathlib.Numerals.{add-one}
-use Rattle.scanning.proofs.Making.{top-push}
+use Rattle.turns.proofs.Making.{top-push}
 use borrow.Author.Needs.{needs}
-use Rattle.scanning.proofs.reader.push.Statement.{statement}
-use Rattle.scanning.proofs.reader.push.Tie as tie
+use Rattle.turns.proofs.push.Statement.{statement}
+use Rattle.turns.proofs.push.Tie as tie
 
 returns : tie.Need-returns
 returns c = (rw add-one, top-push _ _ _ (c .pre))

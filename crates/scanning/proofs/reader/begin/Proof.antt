@@ -6,8 +6,8 @@ use Rattle.signs.specs.declared.Sign.{Sign}
 use Rattle.signs.specs.declared.Sign.the-variants.{Blank, Constant, Letter, Prefix, Operator, Open, Close, Unknown}
 use Rattle.signs.specs.Signed.{Kinded}
 use Rattle.settling.specs.Settled.{topFirst}
-use Rattle.scanning.specs.Numbers.{Words, beginWords}
-use Rattle.scanning.proofs.Making.{stuck-makes, push-makes, end-makes}
+use Rattle.turns.specs.Numbers.{Words, beginWords}
+use Rattle.turns.proofs.Making.{stuck-makes, push-makes, end-makes}
 use borrow.Author.Needs.{needs}
 use Rattle.scanning.proofs.reader.begin.Statement.{statement}
 use Rattle.scanning.proofs.reader.begin.Tie as tie

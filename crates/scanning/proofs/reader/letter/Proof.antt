@@ -4,8 +4,8 @@ use mathlib.Core.Path.{sym, ap, _∙_}
 use Prim.Native.Nat.{ℕ}
 use Rattle.placing.specs.State.{state, written}
 use Rattle.settling.specs.Settled.{topFirst}
-use Rattle.scanning.specs.Numbers.{words, followEnded}
-use Rattle.scanning.proofs.Making.{stuck-makes, sign-kinded, letter-digit, letter-none, letter-ended, digit-bounds}
+use Rattle.turns.specs.Numbers.{words, followEnded}
+use Rattle.turns.proofs.Making.{stuck-makes, sign-kinded, letter-digit, letter-none, letter-ended, digit-bounds}
 use borrow.Author.Needs.{needs}
 use Rattle.scanning.proofs.reader.letter.Statement.{statement}
 use Rattle.scanning.proofs.reader.letter.Tie as tie

@@ -3,10 +3,10 @@ use native.Mathlib.Omega.{arith}
 use mathlib.Core.Path.{_≡_, sym, ap, _∙_, subst}
 use Rattle.placing.specs.State.{state}
 use Rattle.signs.specs.declared.Sign.{Sign}
-use Rattle.scanning.specs.declared.reader.Turn.{Turn}
-use Rattle.scanning.specs.declared.reader.Turn.the-variants as turns
-use Rattle.scanning.specs.Numbers.{Fit, Words, viewed, beginWords, followWords, turnWords, stepWords}
-use Rattle.scanning.proofs.Making.{stuck-makes, sign-kinded, step-turn, step-inside, step-other}
+use Rattle.turns.specs.declared.Turn.{Turn}
+use Rattle.turns.specs.declared.Turn.the-variants as turns
+use Rattle.turns.specs.Numbers.{Fit, Words, viewed, beginWords, followWords, turnWords, stepWords}
+use Rattle.turns.proofs.Making.{stuck-makes, sign-kinded, step-turn, step-inside, step-other}
 use borrow.Author.Needs.{needs}
 use Rattle.scanning.proofs.reader.step.Statement.{statement}
 use Rattle.scanning.proofs.reader.step.Tie as tie
