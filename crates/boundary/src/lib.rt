@@ -11,16 +11,13 @@ ghost use Rattle.claims.specs.Whole.{wholeAnswer, wholeResult};
 ghost use Rattle.judging.specs.Judging.{judgeOutcome, rowOutcome, scratchAfter};
 ghost use Rattle.judging.specs.Judging.{reply as judgeReply};
 ghost use Rattle.replies.specs.Replies.{FormReply, JudgeReply, RowReply};
-use replies::form_reply;
-use replies::reply;
-use table::limits::Limits;
 
 #[no_mangle]
 pub extern "C" fn showrule_check(table: &[u32], plain: bool, limit: usize, place: &mut usize) -> u32
     ensures { λ r. ⌜ r ≡ outcomeNumber (headedChecked plain limit (now (table .entry))) ⌝ }
     ensures { λ r. ⌜ now (place .exit) ≡ outcomePlace (headedChecked plain limit (now (table .entry))) ⌝ }
 {
-    reply(heading::check(table, plain, limit), place)
+    table_calls::check(table, plain, limit, place)
 }
 
 // One byte a word.
@@ -30,7 +27,7 @@ pub extern "C" fn showrule_classify(table: &[u32], bytes: &mut [u8], place: &mut
     ensures { λ r. ⌜ now (place .exit) ≡ outcomePlace (outcomeOf classStep (now (table .entry)) (length (now (bytes .entry)))) ⌝ }
     ensures { λ r. ⌜ now (bytes .exit) ≡ resultOf classStep (now (table .entry)) (now (bytes .entry)) ⌝ }
 {
-    reply(classes::classify(table, bytes), place)
+    table_calls::classify(table, bytes, place)
 }
 
 // The table of a rule typed as text, at the front of the result.
@@ -48,8 +45,7 @@ pub extern "C" fn showrule_text(
         r (now (words .exit)) (now (place .exit)) ⌝ }
     ensures { λ r. ⌜ now (result .exit) ≡ resultOf (textStep (house written fixpoints)) (now (text .entry)) (now (result .entry)) ⌝ }
 {
-    let limits = Limits { written, fixpoints };
-    form_reply(text::read(limits, text, result), words, place)
+    table_calls::text(text, written, fixpoints, result, words, place)
 }
 
 // The plain form of a written table, at the front of the result.
@@ -67,8 +63,7 @@ pub extern "C" fn showrule_plain(
         r (now (words .exit)) (now (place .exit)) ⌝ }
     ensures { λ r. ⌜ now (result .exit) ≡ resultOf (plainStep (house written fixpoints)) (now (table .entry)) (now (result .entry)) ⌝ }
 {
-    let limits = Limits { written, fixpoints };
-    form_reply(nnf::plain_form(limits, table, result), words, place)
+    form_calls::plain(table, written, fixpoints, result, words, place)
 }
 
 // The normal form of a plain table, at the front of the result.
@@ -86,8 +81,7 @@ pub extern "C" fn showrule_normal(
         r (now (words .exit)) (now (place .exit)) ⌝ }
     ensures { λ r. ⌜ now (result .exit) ≡ resultOf (normalStep (house written fixpoints)) (now (table .entry)) (now (result .entry)) ⌝ }
 {
-    let limits = Limits { written, fixpoints };
-    form_reply(normal_form::normalise(limits, table, result), words, place)
+    form_calls::normal(table, written, fixpoints, result, words, place)
 }
 
 // The whole way: the plain form of a written table in one slice, and its normal form in the other.
@@ -107,12 +101,7 @@ pub extern "C" fn showrule_form(
     ensures { λ r. ⌜ now (plain .exit) ≡ resultOf (plainStep (house written fixpoints)) (now (table .entry)) (now (plain .entry)) ⌝ }
     ensures { λ r. ⌜ now (result .exit) ≡ wholeResult (house written fixpoints) (now (table .entry)) (length (now (plain .entry))) (now (result .entry)) ⌝ }
 {
-    let limits = Limits { written, fixpoints };
-    form_reply(
-        pipeline::normal_form(limits, table, plain, result),
-        words,
-        place,
-    )
+    form_calls::form(table, written, fixpoints, plain, result, words, place)
 }
 
 // The table of a plain table's conversion to the dialect without W and M, at the front of the result.
@@ -128,7 +117,7 @@ pub extern "C" fn showrule_dialect(
         r (now (words .exit)) (now (place .exit)) ⌝ }
     ensures { λ r. ⌜ now (result .exit) ≡ resultOf dialectStep (now (table .entry)) (now (result .entry)) ⌝ }
 {
-    form_reply(dialect::convert(table, result), words, place)
+    table_calls::dialect(table, result, words, place)
 }
 
 // Whether the rule holds at the first position, at how many, and the first that fails, over a recording that drives the letters 1 to

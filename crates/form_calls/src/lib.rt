@@ -1,0 +1,70 @@
+// The plain form, the normal form and the whole way in lent numbers: each function answers document 01's refusal number, 0 when the call
+// is accepted, and writes the length and the place to lent numbers.
+ghost use mathlib.Core.Path.{_≡_};
+ghost use lib.ListN.{length};
+ghost use Rattle.table.specs.Limits.{house};
+ghost use Rattle.table.specs.Frame.{plainStep, normalStep, answerOf, resultOf};
+ghost use Rattle.claims.specs.Whole.{wholeAnswer, wholeResult};
+ghost use Rattle.replies.specs.Replies.{FormReply};
+use replies::form_reply;
+use table::limits::Limits;
+
+// The plain form of a written table, at the front of the result.
+pub fn plain(
+    table: &[u32],
+    written: usize,
+    fixpoints: usize,
+    result: &mut [u32],
+    words: &mut usize,
+    place: &mut usize,
+) -> u32
+    ensures { λ r. ⌜ FormReply
+        (answerOf (plainStep (house written fixpoints)) (now (table .entry)) (length (now (result .entry))))
+        r (now (words .exit)) (now (place .exit)) ⌝ }
+    ensures { λ r. ⌜ now (result .exit) ≡ resultOf (plainStep (house written fixpoints)) (now (table .entry)) (now (result .entry)) ⌝ }
+{
+    let limits = Limits { written, fixpoints };
+    form_reply(nnf::plain_form(limits, table, result), words, place)
+}
+
+// The normal form of a plain table, at the front of the result.
+pub fn normal(
+    table: &[u32],
+    written: usize,
+    fixpoints: usize,
+    result: &mut [u32],
+    words: &mut usize,
+    place: &mut usize,
+) -> u32
+    ensures { λ r. ⌜ FormReply
+        (answerOf (normalStep (house written fixpoints)) (now (table .entry)) (length (now (result .entry))))
+        r (now (words .exit)) (now (place .exit)) ⌝ }
+    ensures { λ r. ⌜ now (result .exit) ≡ resultOf (normalStep (house written fixpoints)) (now (table .entry)) (now (result .entry)) ⌝ }
+{
+    let limits = Limits { written, fixpoints };
+    form_reply(normal_form::normalise(limits, table, result), words, place)
+}
+
+// The whole way: the plain form of a written table in one slice, and its normal form in the other.
+pub fn form(
+    table: &[u32],
+    written: usize,
+    fixpoints: usize,
+    plain: &mut [u32],
+    result: &mut [u32],
+    words: &mut usize,
+    place: &mut usize,
+) -> u32
+    ensures { λ r. ⌜ FormReply
+        (wholeAnswer (house written fixpoints) (now (table .entry)) (length (now (plain .entry))) (length (now (result .entry))))
+        r (now (words .exit)) (now (place .exit)) ⌝ }
+    ensures { λ r. ⌜ now (plain .exit) ≡ resultOf (plainStep (house written fixpoints)) (now (table .entry)) (now (plain .entry)) ⌝ }
+    ensures { λ r. ⌜ now (result .exit) ≡ wholeResult (house written fixpoints) (now (table .entry)) (length (now (plain .entry))) (now (result .entry)) ⌝ }
+{
+    let limits = Limits { written, fixpoints };
+    form_reply(
+        pipeline::normal_form(limits, table, plain, result),
+        words,
+        place,
+    )
+}

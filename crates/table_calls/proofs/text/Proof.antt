@@ -1,0 +1,12 @@
+use borrow.Author.Needs.{needs}
+use Rattle.table_calls.proofs.text.Statement.{statement}
+use Rattle.table_calls.proofs.text.Tie as tie
+
+returns : tie.Need-returns
+returns c =
+    let e = c .before .before .before .before .before .read .ensures in
+    (rw (e .0) at (c .form-reply .ensures), e .1)
+
+pub text-spec : {M : Type 1} → statement M
+text-spec =
+    tie.close (tie.spec (search needs) (search needs) (search needs) returns)
