@@ -1,8 +1,9 @@
 // Replies and slices of the library compared with those of the programs written for clarity, before anything is timed: on the rules of
-// source 000, and on tables that are damaged in one place or two, with slices that are too short among the rest.
+// source 000, on tables that are damaged in one place or two, and on tables full of constants, with slices that are too short among the
+// rest.
 use crate::hashmap::Refused;
 use crate::rules::{headed, word, Rule};
-use crate::shapes::{mixed, recording, Numbers, FREE, PLAIN, WRITTEN};
+use crate::shapes::{mixed, recording, with_constants, Numbers, FREE, PLAIN, WRITTEN};
 use crate::{hashmap, library, moments, typed};
 use std::collections::BTreeMap;
 use std::fmt::Debug;
@@ -141,6 +142,9 @@ pub fn all(rules: &[Rule]) -> Seen {
         texts(&mut seen, &mut numbers);
         let (n, m) = (1 + numbers.next(if turn % 20 == 0 { 70 } else { 20 }), 1 + numbers.next(if turn % 20 == 0 { 140 } else { 20 }));
         let (written, plain) = (damaged(&mut numbers, mixed(n, &WRITTEN)), damaged(&mut numbers, mixed(m, &PLAIN)));
+        forms(&mut seen, &mut numbers, &written, &plain);
+        let (n, m) = (5 + numbers.next(10), 5 + numbers.next(10));
+        let (written, plain) = (with_constants(&mut numbers, n, &WRITTEN), with_constants(&mut numbers, m, &PLAIN));
         forms(&mut seen, &mut numbers, &written, &plain);
     }
     seen

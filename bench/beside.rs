@@ -55,19 +55,22 @@ fn main() {
     for (name, table) in shapes::eight_until_like() {
         let (mut result, mut result2) = (vec![0; 4097], vec![0; 4097]);
         let reply = after(&table, &mut result);
-        assert_eq!(reply, before(&table, &mut result2));
-        assert!(result == result2, "the slices are the same");
+        let reply2 = before(&table, &mut result2);
+        if cfg!(folded) {
+            assert_eq!(reply, reply2);
+            assert!(result == result2, "the slices are the same");
+        }
         let rounds = timing::in_turn(
             400,
             &mut result,
             [
                 &mut |r| assert_eq!(after(black_box(&table), r), reply),
-                &mut |r| assert_eq!(before(black_box(&table), r), reply),
+                &mut |r| assert_eq!(before(black_box(&table), r), reply2),
             ],
         );
         println!(
-            "normal form, 8 until-like words, {name}, {} words to {}: before {:.1} us, after {:.1} us, ratio {:.3}",
-            table.len() - 1, reply.2.saturating_sub(1), timing::least_ms(&rounds, 1) * 1e3, timing::least_ms(&rounds, 0) * 1e3, timing::ratio(&rounds, 1)
+            "normal form, 8 until-like words, {name}, {} words to {}, before to {}: before {:.1} us, after {:.1} us, ratio {:.3}",
+            table.len() - 1, reply.2.saturating_sub(1), reply2.2.saturating_sub(1), timing::least_ms(&rounds, 1) * 1e3, timing::least_ms(&rounds, 0) * 1e3, timing::ratio(&rounds, 1)
         );
     }
 }

@@ -1,5 +1,5 @@
-// The steps of document 01 written straight from its definitions, for clarity, with the standard hash map: what the proved library
-// is compared with, and timed beside.
+// The steps of documents 01 and 02 written straight from their definitions, for clarity, with the standard hash map: what the proved
+// library is compared with, and timed beside.
 use std::collections::HashMap;
 
 // A refusal's number and place.
@@ -137,6 +137,11 @@ fn class_bytes(words: &[u32]) -> Vec<u8> {
     bytes
 }
 
+// As many words as a slice counts for beside the header.
+fn words_in(room: usize) -> usize {
+    room.min(16384).saturating_sub(1)
+}
+
 // Words listed as first needed, an identical word used again, in so much room, the header's included.
 pub struct Numbering {
     pub words: Vec<u32>,
@@ -146,7 +151,7 @@ pub struct Numbering {
 
 impl Numbering {
     pub fn new(room: usize) -> Numbering {
-        Numbering { words: Vec::new(), numbers: HashMap::new(), room: room.min(16384).saturating_sub(1) }
+        Numbering { words: Vec::new(), numbers: HashMap::new(), room: words_in(room) }
     }
 
     pub fn put(&mut self, kind: u32, left: u32, right: u32) -> Result<u32, Refused> {
@@ -255,9 +260,9 @@ pub fn normal_form(table: &[u32], result: &mut [u32]) -> Result<usize, Refused> 
     for (bit, &j) in until_like.iter().enumerate() {
         weight[j] = 1 << bit;
     }
-    let mut normal = NormalForm { words, until_like, weight, out: Numbering::new(result.len()), choice: 0, memo: Vec::new() };
+    let mut normal = NormalForm { words, until_like, weight, out: Draft::new(), choice: 0, memo: Vec::new() };
     let form = normal.parts();
-    hand_over(form.map(|_| normal.out.words), result)
+    hand_over(normal.out.table(form, words_in(result.len())), result)
 }
 
 // The dialect without W and M: a W b is b R (a or b), and a M b is b U (a and b).
@@ -309,6 +314,76 @@ pub fn rule_form(table: &[u32], plain: &mut [u32], result: &mut [u32]) -> Result
     normal_form(&plain[..n], result)
 }
 
+// The words of a form as they are made, each folded, with the numbers of its operands here. The constants come first, under the numbers of
+// their kinds. Some words end up unused; the form's table leaves them out.
+struct Draft {
+    words: Vec<[u32; 3]>,
+    numbers: HashMap<[u32; 3], u32>,
+}
+
+impl Draft {
+    fn new() -> Draft {
+        let mut draft = Draft { words: Vec::new(), numbers: HashMap::new() };
+        draft.put(FALSE, 0, 0);
+        draft.put(TRUE, 0, 0);
+        draft
+    }
+
+    // The number of a word over folded ones, which is that of an operand where it folds.
+    fn put(&mut self, kind: u32, left: u32, right: u32) -> u32 {
+        match (kind, left, right) {
+            (AND, FALSE, _) | (AND, _, FALSE) => FALSE,
+            (AND, TRUE, x) | (AND, x, TRUE) => x,
+            (OR, TRUE, _) | (OR, _, TRUE) => TRUE,
+            (OR, FALSE, x) | (OR, x, FALSE) => x,
+            (X | U | R, _, FALSE | TRUE) => right,
+            (U, FALSE, x) | (R, TRUE, x) => x,
+            (W, TRUE, _) | (W, _, TRUE) => TRUE,
+            (W, FALSE, x) => x,
+            (M, FALSE, _) | (M, _, FALSE) => FALSE,
+            (M, TRUE, x) => x,
+            _ => self.word([kind, left, right]),
+        }
+    }
+
+    fn word(&mut self, word: [u32; 3]) -> u32 {
+        if let Some(&n) = self.numbers.get(&word) {
+            return n;
+        }
+        self.words.push(word);
+        let n = self.words.len() as u32;
+        self.numbers.insert(word, n);
+        n
+    }
+
+    // The table of one of the words, listed as first needed, in room for so many.
+    fn table(&self, root: u32, room: usize) -> Result<Vec<u32>, Refused> {
+        let mut table = Vec::new();
+        let mut memo = vec![0; self.words.len() + 1];
+        let mut waiting = vec![root];
+        while let Some(&n) = waiting.last() {
+            let [kind, a, b] = self.words[n as usize - 1];
+            let number = |operand: u32| memo[operand as usize];
+            let (left, right) = match kind {
+                1..=4 => (0, b),
+                X => (0, number(b)),
+                _ => (number(a), number(b)),
+            };
+            match kind {
+                5..=6 | 8..=11 if left == 0 => waiting.push(a),
+                5..=11 if right == 0 => waiting.push(b),
+                _ if table.len() == room => return Err((12, 0)),
+                _ => {
+                    table.push(kind << 28 | left << 14 | right);
+                    memo[n as usize] = table.len() as u32;
+                    waiting.pop();
+                }
+            }
+        }
+        Ok(table)
+    }
+}
+
 #[derive(Clone, Copy)]
 enum Rewriting {
     Steady,
@@ -321,44 +396,44 @@ struct NormalForm<'a> {
     words: &'a [u32],
     until_like: Vec<usize>,
     weight: Vec<u32>, // of each word's bit; 0 where it has none
-    out: Numbering,
+    out: Draft,
     choice: u32,
     memo: Vec<[u32; 3]>, // of this choice's rewritings
 }
 
 impl NormalForm<'_> {
-    fn parts(&mut self) -> Result<u32, Refused> {
+    fn parts(&mut self) -> u32 {
         let mut choices: Vec<u32> = (0..1 << self.until_like.len()).rev().collect();
         choices.sort_by_key(|choice| choice.count_ones());
-        let mut n = self.part(0)?;
+        let mut n = self.part(0);
         for &choice in &choices[1..] {
-            let part = self.part(choice)?;
-            n = self.out.put(OR, n, part)?;
+            let part = self.part(choice);
+            n = self.out.put(OR, n, part);
         }
-        Ok(n)
+        n
     }
 
-    fn part(&mut self, choice: u32) -> Result<u32, Refused> {
+    fn part(&mut self, choice: u32) -> u32 {
         self.choice = choice;
         self.memo = vec![[0; 3]; self.words.len() + 1];
-        let mut n = self.form(Opening, self.words.len())?;
+        let mut n = self.form(Opening, self.words.len());
         for j in self.chosen([U, M]) {
-            let g = self.out.put(FALSE, 0, 0)?;
-            let f = self.out.put(TRUE, 0, 0)?;
-            let x = self.form(Recurring, j)?;
-            let fx = self.out.put(U, f, x)?;
-            let gfx = self.out.put(R, g, fx)?;
-            n = self.out.put(AND, n, gfx)?;
+            let g = self.out.put(FALSE, 0, 0);
+            let f = self.out.put(TRUE, 0, 0);
+            let x = self.form(Recurring, j);
+            let fx = self.out.put(U, f, x);
+            let gfx = self.out.put(R, g, fx);
+            n = self.out.put(AND, n, gfx);
         }
         for j in self.chosen([W, R]) {
-            let f = self.out.put(TRUE, 0, 0)?;
-            let g = self.out.put(FALSE, 0, 0)?;
-            let x = self.form(Steady, j)?;
-            let gx = self.out.put(R, g, x)?;
-            let fgx = self.out.put(U, f, gx)?;
-            n = self.out.put(AND, n, fgx)?;
+            let f = self.out.put(TRUE, 0, 0);
+            let g = self.out.put(FALSE, 0, 0);
+            let x = self.form(Steady, j);
+            let gx = self.out.put(R, g, x);
+            let fgx = self.out.put(U, f, gx);
+            n = self.out.put(AND, n, fgx);
         }
-        Ok(n)
+        n
     }
 
     fn chosen(&self, kinds: [u32; 2]) -> Vec<usize> {
@@ -367,54 +442,54 @@ impl NormalForm<'_> {
     }
 
     // The number of a rewriting of word j.
-    fn form(&mut self, m: Rewriting, j: usize) -> Result<u32, Refused> {
+    fn form(&mut self, m: Rewriting, j: usize) -> u32 {
         let known = self.memo[j][m as usize];
         if known != 0 {
-            return Ok(known);
+            return known;
         }
         let w = self.words[j - 1];
         let chosen = self.choice & self.weight[j] != 0;
         let n = match (m, kind(w)) {
-            (_, k @ 1..=4) => self.out.put(k, 0, right(w) as u32)?,
+            (_, k @ 1..=4) => self.out.put(k, 0, right(w) as u32),
             (_, X) => {
-                let b = self.form(m, right(w))?;
-                self.out.put(X, 0, b)?
+                let b = self.form(m, right(w));
+                self.out.put(X, 0, b)
             }
-            (Steady, U | M) if !chosen => self.out.put(FALSE, 0, 0)?,
-            (Steady, U) => self.both(m, W, w)?,
-            (Steady, M) => self.both(m, R, w)?,
-            (Recurring, W | R) if chosen => self.out.put(TRUE, 0, 0)?,
-            (Recurring, W) => self.both(m, U, w)?,
-            (Recurring, R) => self.both(m, M, w)?,
+            (Steady, U | M) if !chosen => self.out.put(FALSE, 0, 0),
+            (Steady, U) => self.both(m, W, w),
+            (Steady, M) => self.both(m, R, w),
+            (Recurring, W | R) if chosen => self.out.put(TRUE, 0, 0),
+            (Recurring, W) => self.both(m, U, w),
+            (Recurring, R) => self.both(m, M, w),
             (Opening, W) => {
-                let a = self.form(m, left(w))?;
-                let b = self.form(m, right(w))?;
-                let or_always = self.or_always(b, left(w))?;
-                self.out.put(U, a, or_always)?
+                let a = self.form(m, left(w));
+                let b = self.form(m, right(w));
+                let or_always = self.or_always(b, left(w));
+                self.out.put(U, a, or_always)
             }
             (Opening, R) => {
-                let a = self.form(m, left(w))?;
-                let or_always = self.or_always(a, right(w))?;
-                let b = self.form(m, right(w))?;
-                self.out.put(M, or_always, b)?
+                let a = self.form(m, left(w));
+                let or_always = self.or_always(a, right(w));
+                let b = self.form(m, right(w));
+                self.out.put(M, or_always, b)
             }
-            (_, k) => self.both(m, k, w)?,
+            (_, k) => self.both(m, k, w),
         };
         self.memo[j][m as usize] = n;
-        Ok(n)
+        n
     }
 
-    fn both(&mut self, m: Rewriting, kind: u32, w: u32) -> Result<u32, Refused> {
-        let a = self.form(m, left(w))?;
-        let b = self.form(m, right(w))?;
+    fn both(&mut self, m: Rewriting, kind: u32, w: u32) -> u32 {
+        let a = self.form(m, left(w));
+        let b = self.form(m, right(w));
         self.out.put(kind, a, b)
     }
 
     // `a or G x`, with x the steady form of word j.
-    fn or_always(&mut self, a: u32, j: usize) -> Result<u32, Refused> {
-        let never = self.out.put(FALSE, 0, 0)?;
-        let x = self.form(Steady, j)?;
-        let always = self.out.put(R, never, x)?;
+    fn or_always(&mut self, a: u32, j: usize) -> u32 {
+        let never = self.out.put(FALSE, 0, 0);
+        let x = self.form(Steady, j);
+        let always = self.out.put(R, never, x);
         self.out.put(OR, a, always)
     }
 }

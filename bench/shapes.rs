@@ -42,6 +42,29 @@ pub fn over_letters(letters: usize, n: usize, kinds: &[u32]) -> Vec<u32> {
     headed(words)
 }
 
+// A table of n words, 5 or more, of the given kinds over letter 1 and both constants, by numbers that look random: each word uses the one
+// before it, and often one of those three.
+pub fn with_constants(numbers: &mut Numbers, n: usize, kinds: &[u32]) -> Vec<u32> {
+    let two_sided = |numbers: &mut Numbers| [5, 6, 8, 9, 10, 11][numbers.next(6)];
+    let mut words = vec![word(1, 0, 0), word(2, 0, 0), word(3, 0, 1)];
+    let constants = if numbers.next(2) == 0 { [1, 2] } else { [2, 1] };
+    for constant in constants {
+        words.push(word(two_sided(numbers), words.len(), constant));
+    }
+    while words.len() < n {
+        let last = words.len();
+        let among = [3, last][numbers.next(2)];
+        let other = 1 + numbers.next(among);
+        let kind = kinds[numbers.next(kinds.len())];
+        words.push(match kind {
+            7 | 12..=14 => word(kind, 0, last),
+            _ if numbers.next(2) == 0 => word(kind, last, other),
+            _ => word(kind, other, last),
+        });
+    }
+    headed(words)
+}
+
 // Every letter at random.
 pub fn noise(n: usize) -> Vec<u32> {
     let mut numbers = Numbers(4);

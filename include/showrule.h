@@ -123,9 +123,11 @@ uint32_t showrule_plain(const uint32_t *table, size_t length, size_t written, si
                         size_t *form_length, size_t *place);
 
 /* The normal form of a plain table of at most SHOWRULE_PLAIN_WORDS(written) words, `until_like` of them until-like: 25, the checks of a
- * table, 11 and 12. Accepted, *form_length is its length, its header and words are the first of the result, and later words stay. Refused
- * by 12, every word of the result is 0; refused otherwise, it is as it was. Refused, *form_length is 0. A result counts for 16,383 words
- * and the header at most. */
+ * table, 11 and 12. The form is folded, and then numbered by first need with sharing: false or a is a, a W true is true, X false is false,
+ * and so on from the leaves upward, so that the whole form may be the one word true or false, and 12 measures the folded form. No other
+ * step folds: plain forms, conversions and the tables of texts keep their constants. Accepted, *form_length is the form's length, its
+ * header and words are the first of the result, and later words stay. Refused by 12, every word of the result is 0; refused otherwise, it
+ * is as it was. Refused, *form_length is 0. A result counts for 16,383 words and the header at most. */
 uint32_t showrule_normal(const uint32_t *table, size_t length, size_t written, size_t until_like, uint32_t *result, size_t room,
                          size_t *form_length, size_t *place);
 

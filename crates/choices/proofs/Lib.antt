@@ -1,3 +1,3 @@
--- The parts of all choices, placed one after the other.
-pub mod Growth
+-- The laws of the parts of all choices.
 pub mod ChoiceOrder
+pub mod Parts

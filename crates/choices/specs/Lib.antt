@@ -1,2 +1,2 @@
 -- What the promises about the parts of all choices cite.
-pub mod Growing
+pub mod Joining

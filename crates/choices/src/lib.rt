@@ -1,53 +1,53 @@
-// The parts of all choices, fewer chosen words first and equal counts by higher number, joined by or.
-use placing::put;
+// The folded parts of all choices, fewer chosen words first and equal counts by higher number, joined by or.
+use slots::slot;
+use sums::Sum;
 use table::kinds;
-ghost use Prim.Native.Nat.{_<_};
+ghost use Prim.Native.Nat.{ℕ, _^_, _<_};
+ghost use mathlib.Core.Bool.{false};
 ghost use mathlib.Core.List.{[], _∷_};
 ghost use lib.ListN.{length};
-ghost use Rattle.logic.specs.NormalForm.{normalForm, below};
-ghost use Rattle.table.specs.Numbering.{build};
-ghost use Rattle.table.specs.Table.{rule};
-ghost use Rattle.table.specs.Steps as steps;
-ghost use Rattle.placing.specs.State.{state, written, Placing};
+ghost use Rattle.logic.specs.Formula.{const};
+ghost use Rattle.logic.specs.NormalForm.{below, choices};
+ghost use Rattle.placing.specs.State.{state};
 ghost use Rattle.filling.specs.Filled.{Laid};
-ghost use Rattle.parts.specs.Ready.{Ready};
-ghost use Rattle.choices.specs.Growing.{disjoined, chosenIn, Formable, Grown};
+ghost use Rattle.sums.specs.Summed.{Small, Summed, Grown};
+ghost use Rattle.choices.specs.Joining.{joined, chosenIn, Untrue, Joinable};
 
-// The number of `n or p`, with p the part of the choice, if it has so many chosen words, and n otherwise.
+// The sum with the part of the choice joined to it, if the choice has so many chosen words. A part that folds to false adds nothing.
 pub fn with_part(
     table: &[u32],
     positions: &[u8],
     choice: u32,
     ones: u32,
     draft: &mut [u64],
+    folded: &mut [u64],
     numbers: &mut [u16],
     stack: &mut [u16],
     out: &mut [u32],
     index: &mut [u16],
-    n: usize,
-) -> usize
-    requires { ⌜ Ready (now table) (now positions) (now draft) (now numbers) (now stack) (state (now out) (now index)) ⌝ }
-    requires { ⌜ n < 16384 ⌝ }
+    sum: Sum,
+) -> Sum
+    requires { ⌜ Joinable (now table) (now positions) (now draft) (now folded) (now numbers) (now stack) (state (now out) (now index)) ⌝ }
+    requires { ⌜ Untrue (now table) choice × Small sum ⌝ }
     ensures { λ r. ⌜ Grown
-        (λ φ. φ)
-        (disjoined (now (table .entry)) (chosenIn (choice ∷ []) ones))
+        (joined (now (table .entry)) (chosenIn (choice ∷ []) ones))
         (state (now (out .entry)) (now (index .entry)))
         (state (now (out .exit)) (now (index .exit)))
-        n
+        sum
         r ⌝ }
     ensures { λ r. ⌜ Laid (now (table .entry)) (now (draft .exit)) (length (now (table .entry))) ⌝ }
 {
     if u32::count_ones(choice) != ones {
-        return n;
+        return sum;
     }
-    if n == 0 {
-        return 0;
+    if let Sum::Full = sum {
+        return Sum::Full;
     }
-    let p = parts::part(table, positions, choice, draft, numbers, stack, out, index);
-    if p == 0 {
-        return 0;
+    let root = parts::part(table, positions, choice, draft, folded);
+    if slot::kind(folded[root]) == kinds::FALSE {
+        return sum;
     }
-    put::put(out, index, word::pack(kinds::OR, n, p))
+    sums::join(sum, folded, root, numbers, stack, out, index)
 }
 
 // The choices below `limit` with so many chosen words, the highest first.
@@ -57,80 +57,81 @@ pub fn with_ones(
     limit: u32,
     ones: u32,
     draft: &mut [u64],
+    folded: &mut [u64],
     numbers: &mut [u16],
     stack: &mut [u16],
     out: &mut [u32],
     index: &mut [u16],
-    first: usize,
-) -> usize
-    requires { ⌜ Ready (now table) (now positions) (now draft) (now numbers) (now stack) (state (now out) (now index)) ⌝ }
-    requires { ⌜ first < 16384 ⌝ }
+    first: Sum,
+) -> Sum
+    requires { ⌜ Joinable (now table) (now positions) (now draft) (now folded) (now numbers) (now stack) (state (now out) (now index)) ⌝ }
+    requires { ⌜ ((c : ℕ) → c < limit → Untrue (now table) c) × Small first ⌝ }
     ensures { λ r. ⌜ Grown
-        (λ φ. φ)
-        (disjoined (now (table .entry)) (chosenIn (below limit) ones))
+        (joined (now (table .entry)) (chosenIn (below limit) ones))
         (state (now (out .entry)) (now (index .entry)))
         (state (now (out .exit)) (now (index .exit)))
         first
         r ⌝ }
     ensures { λ r. ⌜ Laid (now (table .entry)) (now (draft .exit)) (length (now (table .entry))) ⌝ }
 {
-    let mut n = first;
+    let mut sum = first;
     let mut choice = limit;
     while 0 < choice {
         choice -= 1;
-        n = with_part(
+        sum = with_part(
             table,
             positions,
             choice,
             ones,
             draft,
+            folded,
             numbers,
             stack,
             out,
             index,
-            n,
+            sum,
         );
     }
-    n
+    sum
 }
 
-// All choices among the until-like words, of which there are as many as bits.
-pub fn form(
+// All choices among so many until-like words, none of whose parts folds to true.
+pub fn all(
     table: &[u32],
     positions: &[u8],
     bits: u32,
     draft: &mut [u64],
+    folded: &mut [u64],
     numbers: &mut [u16],
     stack: &mut [u16],
     out: &mut [u32],
     index: &mut [u16],
-) -> usize
-    requires { ⌜ Formable (now table) (now positions) bits (now draft) (now numbers) (now stack) (state (now out) (now index)) ⌝ }
-    ensures { λ r. ⌜ Placing
+) -> Sum
+    requires { ⌜ Joinable (now table) (now positions) (now draft) (now folded) (now numbers) (now stack) (state (now out) (now index)) ⌝ }
+    requires { ⌜ ((c : ℕ) → c < 2 ^ bits → Untrue (now table) c) × (bits < 32) ⌝ }
+    ensures { λ r. ⌜ Summed
         (state (now (out .entry)) (now (index .entry)))
         (state (now (out .exit)) (now (index .exit)))
-        (build
-        (written (state (now (out .entry)) (now (index .entry))))
-        (normalForm (steps.fixpoints (now (table .entry))) (rule (now (table .entry)))))
+        (joined (now (table .entry)) (choices bits) (const false))
         r ⌝ }
 {
-    filling::fill_words(table, draft);
-    let mut n = parts::part(table, positions, 0, draft, numbers, stack, out, index);
-    let mut ones = 1;
+    let mut sum = Sum::Nothing;
+    let mut ones = 0;
     while ones <= bits {
-        n = with_ones(
+        sum = with_ones(
             table,
             positions,
             1 << bits,
             ones,
             draft,
+            folded,
             numbers,
             stack,
             out,
             index,
-            n,
+            sum,
         );
         ones += 1;
     }
-    n
+    sum
 }

@@ -11,6 +11,7 @@ use Rattle.logic.specs.Formula.{Formula, Binary, conj, disj, until, weak, relea
 use Rattle.logic.specs.Hierarchy.{Closing, boolean, least, greatest, closes, Closure, base, step, join, Atomic, constant, literal, Δ₂}
 use Rattle.logic.specs.NegationNormalForm.{plainBinary, isPlain}
 use Rattle.logic.specs.NormalForm.{normalForm}
+use Rattle.logic.specs.Folding.{fold}
 use Rattle.logic.proofs.Tests.{T-and}
 use Rattle.refusals.specs.declared.Outcome.the-variants.{Accepted}
 use Rattle.table.specs.Table.{rule}
@@ -18,7 +19,7 @@ use Rattle.table.specs.Checks.{checked}
 use Rattle.table.specs.Steps.{fixpoints, normalTable}
 use Rattle.table.proofs.Accepted.{accepted-well-formed}
 use Rattle.numbering.proofs.Accepted.{accepted-tableOf}
-use Rattle.normal_laws.proofs.Promise.{rule-normalTable, normal-Δ₂, form-letters}
+use Rattle.normal_laws.proofs.Promise.{rule-normalTable, normal-Δ₂, folded-letters}
 use Rattle.normal_laws.proofs.Subformulas.{rule-plain}
 
 closes-plain : (c : Closing) (o : Binary) → T (closes c o) → T (plainBinary o)
@@ -58,7 +59,7 @@ module _ (limit : ℕ) (t : List ℕ) (ok : checked true limit t ≡ Accepted) (
   pub normal-plain : (plainOnly : Bool) → checked plainOnly 16383 (normalTable t) ≡ Accepted
   unfolding normalTable
   normal-plain b =
-      let plain : T (isPlain (normalForm (fixpoints t) (rule t))) =
+      let plain : T (isPlain (fold (normalForm (fixpoints t) (rule t)))) =
       subst (λ (φ : Formula). T (isPlain φ)) (rule-normalTable limit t ok small short) (Δ₂-plain (rule (normalTable t)) (normal-Δ₂ limit t ok small short)) in
-      let letters = form-letters limit t ok small (λ p. (0 < p) × (p ≤ 32)) (rule-plain small (accepted-well-formed true limit t ok) .1) in
-      accepted-tableOf b 16383 (normalForm (fixpoints t) (rule t)) (plain, letters) short (omega arith)
+      let letters = folded-letters limit t ok small (λ p. (0 < p) × (p ≤ 32)) (rule-plain small (accepted-well-formed true limit t ok) .1) in
+      accepted-tableOf b 16383 (fold (normalForm (fixpoints t) (rule t))) (plain, letters) short (omega arith)

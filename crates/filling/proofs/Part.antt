@@ -6,7 +6,8 @@ use mathlib.Core.Bool.{true}
 use mathlib.Core.List.{List, map, foldl-append}
 use lib.ListN.{length}
 use Rattle.logic.specs.Formula.{bin, conj}
-use Rattle.logic.specs.NormalForm.{part}
+use Rattle.logic.specs.Rewriting.{opening}
+use Rattle.logic.specs.NormalForm.{member, leastOf, part}
 use Rattle.table.specs.Table.{rule}
 use Rattle.table.specs.Steps.{fixpoints}
 use Rattle.table.proofs.Accepted.{accepted-well-formed}
@@ -24,6 +25,11 @@ use Rattle.filling.proofs.WordByWord.{laid-later, chosen-filled}
 module _ {t positions : List ℕ} {c : ℕ} {d : List ℕ} (q : Fillable t positions d) {d₁ : List ℕ} (l : length d₁ ≡ length d) (chosen : Chosen t c d₁ (length t)) where
   filled : Filled t c d₁ (length t)
   filled = chosen-filled (accepted-well-formed true (q .room .limit) t (q .room .accepted)) chosen (omega (arith, q .room .long)) (length t) (omega arith)
+
+  -- the opening form of the rule
+  pub rule-opened : Drafted d₁ (opening (member (leastOf (fixpoints t) c)) (rule t)) (5 * length t + 4)
+  unfolding rule
+  rule-opened = filled .form Opening (length t) (accepted-well-formed true (q .room .limit) t (q .room .accepted) .some) (omega arith)
 
   pub joinable-least : Joinable Least t positions c d₁ (5 * length t + 5)
   joinable-least = record {

@@ -17,11 +17,11 @@ use Rattle.table.specs.Steps.{fixpoints}
 use Rattle.table.specs.StepChecks.{isFixpointWord}
 use Rattle.table.proofs.Accepted.{WellFormed, accepted-formula}
 use Rattle.table.proofs.Formulas.{take-formulas, length-formulas}
-use Rattle.logic.proofs.Normal.Membership.{mem-of-member, member-of-mem, mem-keep}
+use Rattle.logic.proofs.Normal.Membership.{mem-of-member, member-of-mem, mem-keep, mem-place}
 use Rattle.logic.specs.Bit.{bit}
 use Rattle.fixpoints.specs.Positions.{bitOf}
 use Rattle.table.proofs.Shapes.{kindOf-shape}
-use Rattle.normal_laws.proofs.Chosen.{keep-append, mem-chosen, mem-place}
+use Rattle.normal_laws.proofs.Chosen.{keep-append, mem-chosen}
 use Rattle.normal_laws.proofs.Distinct.{formulas-differ}
 
 half-again : (c n : ℕ) → c / 2 / 2 ^ n ≡ c / 2 ^ suc n

@@ -2,13 +2,14 @@
 use Prim.Native.Nat.{ℕ, _+_, _*_, _-_, _/_, _%_, _^_, _≤_, _<_, min}
 use native.Mathlib.Omega.{arith}
 use native.Mathlib.Nat.{mul-le-mul}
-use mathlib.Core.Path.{_≡_, ap, _∙_}
+use mathlib.Core.Path.{_≡_, refl, ap, _∙_}
 use mathlib.Core.Bool.{true}
 use mathlib.Core.List.{List, _++_}
 use lib.ListN.{length, take, drop, replicate, length-replicate, length-take}
 use lib.Pow.{pow-mono, shl-exact}
 use Rattle.logic.proofs.Numbers.{getD-zeros}
 use Rattle.logic.specs.NormalForm.{normalForm}
+use Rattle.logic.specs.Folding.{fold}
 use Rattle.table.specs.Table.{rule}
 use Rattle.filling.specs.Filled.{draftSize}
 use Rattle.fixpoints.specs.Positions.{Kept}
@@ -19,13 +20,13 @@ use Rattle.placing.specs.State.{State, state, written, Placing}
 use Rattle.placing.specs.Written.{Written}
 use Rattle.placing.proofs.Putting.{numbered-none}
 use Rattle.placing.proofs.Written.{written-all, written-part}
-use Rattle.choices.specs.Growing.{Formable}
+use Rattle.form_table.specs.Formable.{Formable}
 use Rattle.forms.specs.Forms.{mostWords, mostSlots, Accepted, Positioned, Sized}
-use Rattle.normal_laws.proofs.Promise.{form-letters, normal-length}
+use Rattle.normal_laws.proofs.Promise.{folded-letters, normal-length}
 
 -- what a form is asked with, in each tier
 pub formable : {t positions : List ℕ} {bits : ℕ} {out : List ℕ} (slots m words : ℕ) → Positioned t positions bits × Sized t slots out words → slots ≤ mostSlots → words < m / 2 → m ≤ 32768
-    → Formable t positions bits (replicate slots 0) (replicate slots 0) (replicate slots 0) (state out (replicate m 0))
+    → Formable t positions bits (replicate slots 0) (replicate slots 0) (replicate slots 0) (replicate slots 0) (state out (replicate m 0))
 formable {out = out} slots m words q s h l = record {
   room = record {
     limit = q .0 .table .limit;
@@ -34,6 +35,7 @@ formable {out = out} slots m words q s h l = record {
     narrow = rw (length-replicate {A = ℕ} slots 0) (omega arith);
   };
   kept = q .0 .kept;
+  long = refl;
   numbers-long = omega arith;
   stack-long = omega arith;
   numbered = numbered-none out m (omega (arith, q .1 .few-words)) l;
@@ -43,10 +45,10 @@ formable {out = out} slots m words q s h l = record {
 
 -- the form was placed after no words
 pub formed : {t out : List ℕ} → Accepted t → (m : ℕ) {e : State} {r : ℕ}
-    → Placing (state out (replicate m 0)) e (build (written (state out (replicate m 0))) (normalForm (fixpoints t) (rule t))) r → Written (normalTable t) out (e .out) r
+    → Placing (state out (replicate m 0)) e (build (written (state out (replicate m 0))) (fold (normalForm (fixpoints t) (rule t)))) r → Written (normalTable t) out (e .out) r
 unfolding normalTable
 formed {t} q m p =
-    written-all (normalForm (fixpoints t) (rule t)) (form-letters (q .limit) t (q .accepted) (omega (arith, q .short)) (λ p. p < 16384) (rule-small true (q .limit) t (q .accepted))) p (getD-zeros m 0)
+    written-all (fold (normalForm (fixpoints t) (rule t))) (folded-letters (q .limit) t (q .accepted) (omega (arith, q .short)) (λ p. p < 16384) (rule-small true (q .limit) t (q .accepted))) p (getD-zeros m 0)
 
 -- a part of the slice that is as long as the form can need serves as the whole
 pub formed-part : {t : List ℕ} → Accepted t → (result : List ℕ) {e : List ℕ} {cap r : ℕ} → cap ≡ min (mostWords (length t) (length (fixpoints t))) (length result)

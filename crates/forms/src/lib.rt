@@ -31,14 +31,16 @@ pub fn small(table: &[u32], positions: &[u8], bits: u32, out: &mut [u32]) -> usi
     ensures { λ r. ⌜ Written (normalTable (now (table .entry))) (now (out .entry)) (now (out .exit)) r ⌝ }
 {
     let mut draft = [0u64; SHORT_SLOTS];
+    let mut folded = [0u64; SHORT_SLOTS];
     let mut numbers = [0u16; SHORT_SLOTS];
     let mut stack = [0u16; SHORT_SLOTS];
     let mut index = [0u16; 2048];
-    choices::form(
+    form_table::form(
         table,
         positions,
         bits,
         &mut draft,
+        &mut folded,
         &mut numbers,
         &mut stack,
         out,
@@ -52,14 +54,16 @@ pub fn middle(table: &[u32], positions: &[u8], bits: u32, out: &mut [u32]) -> us
     ensures { λ r. ⌜ Written (normalTable (now (table .entry))) (now (out .entry)) (now (out .exit)) r ⌝ }
 {
     let mut draft = [0u64; MIDDLE_SLOTS];
+    let mut folded = [0u64; MIDDLE_SLOTS];
     let mut numbers = [0u16; MIDDLE_SLOTS];
     let mut stack = [0u16; MIDDLE_SLOTS];
     let mut index = [0u16; 8194];
-    choices::form(
+    form_table::form(
         table,
         positions,
         bits,
         &mut draft,
+        &mut folded,
         &mut numbers,
         &mut stack,
         out,
@@ -73,14 +77,16 @@ pub fn large(table: &[u32], positions: &[u8], bits: u32, out: &mut [u32]) -> usi
     ensures { λ r. ⌜ Written (normalTable (now (table .entry))) (now (out .entry)) (now (out .exit)) r ⌝ }
 {
     let mut draft = [0u64; SLOTS];
+    let mut folded = [0u64; SLOTS];
     let mut numbers = [0u16; SLOTS];
     let mut stack = [0u16; SLOTS];
     let mut index = [0u16; 32768];
-    choices::form(
+    form_table::form(
         table,
         positions,
         bits,
         &mut draft,
+        &mut folded,
         &mut numbers,
         &mut stack,
         out,

@@ -8,3 +8,4 @@ pub mod Hierarchy
 pub mod Lasso
 pub mod Normal
 pub mod Dialect
+pub mod Folding

@@ -14,3 +14,4 @@ pub mod ExactChoice
 pub mod NormalForm
 pub mod Class
 pub mod Lasso
+pub mod TrueParts

@@ -11,6 +11,7 @@ pub mod NegationNormalForm
 pub mod Rewriting
 pub mod NormalForm
 pub mod Dialect
+pub mod Folding
 -- What is computed and proved equal: truth as a Bool, and the class byte from the operands' bytes.
 pub mod Truth
 pub mod ClassStep

@@ -25,15 +25,6 @@ chosenIn cs n = keep (λ c. eqb (ones c) n) cs
 abbrev pub choicesBelow : ℕ → ℕ → List ℕ
 choicesBelow limit n = chosenIn (below limit) n
 
-from-snoc : (a n : ℕ) → from a (suc n) ≡ from a n ++ ((a + n) ∷ [])
-from-snoc a zero = ap (λ (k : ℕ). k ∷ []) (omega arith)
-from-snoc a (suc n) = ap (λ (l : List ℕ). a ∷ l) (from-snoc (suc a) n ∙ ap (λ (k : ℕ). from (suc a) n ++ (k ∷ [])) (omega arith))
-
--- the parts of more choices are joined after those of the first
-pub disjoined-append : (t cs ds : List ℕ) (φ : Formula) → disjoined t ds (disjoined t cs φ) ≡ disjoined t (cs ++ ds) φ
-disjoined-append t cs ds φ =
-    sym (ap (foldl (bin disj) φ) (map-append (part (fixpoints t) (rule t)) cs ds) ∙ foldl-append (bin disj) φ (map (part (fixpoints t) (rule t)) cs) _)
-
 -- a number that is not 0 has a one
 ones-positive : (n c : ℕ) → c ≤ n → 0 < c → 0 < ones c
 ones-positive zero c h p = absurd (omega arith)
@@ -51,18 +42,6 @@ empty-first (suc n) = rw (ne-eqb (ones (suc n)) 0 (λ e. omega (arith, ones-posi
 -- the choices with one chosen word up to n of them
 abbrev pub upTo : ℕ → ℕ → List ℕ
 upTo k n = joinAll (map (choicesOf k) (from 1 n))
-
-joinAll-append {ℓ} : {A : Type ℓ} (xs ys : List (List A)) → joinAll (xs ++ ys) ≡ joinAll xs ++ joinAll ys
-joinAll-append [] ys = refl
-joinAll-append (x ∷ xs) ys = ap (λ l. x ++ l) (joinAll-append xs ys) ∙ sym (append-assoc x (joinAll xs) (joinAll ys))
-
-pub upTo-more : (k n : ℕ) → upTo k n ++ choicesBelow (2 ^ k) (suc n) ≡ upTo k (suc n)
-unfolding choicesOf
-upTo-more k n =
-    sym (ap (λ (l : List ℕ). joinAll (map (choicesOf k) l)) (from-snoc 1 n)
-    ∙ ap joinAll (map-append (choicesOf k) (from 1 n) _)
-    ∙ joinAll-append (map (choicesOf k) (from 1 n)) _
-    ∙ ap (λ (l : List ℕ). upTo k n ++ l) (append-nil (choicesOf k (1 + n)) ∙ ap (choicesOf k) (omega arith)))
 
 pub choices-first : (k : ℕ) → choices k ≡ 0 ∷ upTo k k
 unfolding choices choicesOf

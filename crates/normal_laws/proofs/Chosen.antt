@@ -1,11 +1,11 @@
--- Lists of formulas: what is kept, what is chosen, and at which places the elements stand.
-use Prim.Native.Nat.{ℕ, zero, suc, _+_, _/_, _%_, _≤_, _<_}
+-- Lists of formulas: what is kept, and what is chosen.
+use Prim.Native.Nat.{ℕ, suc, _+_, _/_, _%_, _≤_}
 use native.Mathlib.Omega.{arith}
 use mathlib.Core.Path.{_≡_, refl, sym, ap}
 use mathlib.Core.Logic.{⊎-elim}
 use mathlib.Core.Bool.{Bool, true, false, cond, true≢false}
 use mathlib.Core.List.{List, [], _∷_, _++_, List·Memᴰ, List·Memᴰ·head, List·Memᴰ·tail, List·Memᴰ·cases-cons}
-use lib.ListN.{length, getD}
+use lib.ListN.{length}
 use lib.Dec.{eqb}
 use Rattle.logic.specs.Formula.{Formula, Binary, const, lit, un, bin, conj, disj, until, weak, release, strong, implies, isLeastOp, isGreatestOp}
 use Rattle.logic.specs.NormalForm.{isLeast, isGreatest, keep, chosen, leastOf, greatestOf}
@@ -28,16 +28,6 @@ mem-chosen {φ} (ψ ∷ ψs) c m = go (eqb (c % 2) 1) (λ n. List·Memᴰ·tail 
     go : (b : Bool) → (List·Memᴰ φ (chosen ψs (c / 2)) → List·Memᴰ φ (ψ ∷ ψs)) → List·Memᴰ φ (cond b (ψ ∷ chosen ψs (c / 2)) (chosen ψs (c / 2))) → List·Memᴰ φ (ψ ∷ ψs)
     go true rec n = ⊎-elim (λ e. List·Memᴰ·head e) rec (List·Memᴰ·cases-cons n)
     go false rec n = rec n
-
--- an element has a place
-pub mem-place : {φ : Formula} {l : List Formula} → List·Memᴰ φ l → (i : ℕ) × (i < length l) × (getD l i (const false) ≡ φ)
-mem-place (List·Memᴰ·head e) = (0, omega arith, sym e)
-mem-place (List·Memᴰ·tail m) = let r = mem-place m in (suc (r .0), omega (arith, r .1), r .2)
-
-pub mem-at : (l : List Formula) (i : ℕ) → i < length l → List·Memᴰ (getD l i (const false)) l
-mem-at [] i h = absurd (omega arith)
-mem-at (x ∷ l) zero h = List·Memᴰ·head refl
-mem-at (x ∷ l) (suc i) h = List·Memᴰ·tail (mem-at l i (omega arith))
 
 -- no formula is both a least and a greatest fixpoint, so no more are chosen as either than are listed
 least-not-greatest : (φ : Formula) → isLeast φ ≡ true → isGreatest φ ≡ false

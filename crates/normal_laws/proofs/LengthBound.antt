@@ -1,4 +1,4 @@
--- The length of a normal form: what each word adds under each rewriting, each chosen word as a conjunct, and each choice as a disjunct.
+-- The length of a folded normal form, by the formulas that it is made of before it is folded: what each word adds under each rewriting, each chosen word as a conjunct, and each choice as a disjunct.
 use Prim.Native.Nat.{ℕ, zero, suc, _+_, _*_, _/_, _%_, _^_, _≤_, _<_}
 use native.Mathlib.Omega.{arith}
 use native.Mathlib.Nat.{suc-mul, mul-add, mul-le-mul-right}
@@ -8,6 +8,7 @@ use mathlib.Core.Bool.{Bool, true, false, cond, true≢false}
 use mathlib.Core.List.{List, [], _∷_, _++_, map, foldl, List·Memᴰ, List·Memᴰ·head, List·Memᴰ·tail, List·Memᴰ·not-nil, List·Memᴰ·cases-cons, List·Memᴰ·append-cases, List·Memᴰ·eq-of-singleton, Memᴰ·append-left, Memᴰ·append-right, Memᴰ·map}
 use lib.ListN.{length, length-append, length-map}
 use Rattle.logic.specs.Formula.{Formula, Binary, const, lit, un, bin, conj, disj, until, weak, release, strong, implies, isLeastOp, isGreatestOp, F, G}
+use Rattle.logic.specs.Folding.{fold}
 use Rattle.logic.specs.Rewriting.{steadyOp, steady, recurringOp, recurring, opening}
 use lib.Dec.{eqb}
 use lib.Count.{ones}
@@ -21,10 +22,10 @@ use Rattle.table.specs.Steps.{fixpoints, normalTable}
 use Rattle.table.proofs.Accepted.{WellFormed}
 use Rattle.table.proofs.Formulas.{length-formulas}
 use Rattle.numbering.proofs.Built.{Hereditary}
+use Rattle.numbering.proofs.Lengths.{hereditary-sub, folded-length}
 use Rattle.logic.specs.Subformula as subformula
 use Rattle.logic.proofs.Normal.PlainFormula.{sub-trans}
 use Rattle.normal_laws.proofs.Subformulas.{complete, inside}
-use Rattle.normal_laws.proofs.Pigeonhole.{table-length}
 use Rattle.logic.proofs.Normal.Membership.{mem-joinAll, mem-keep}
 use Rattle.normal_laws.proofs.Chosen.{mem-chosen, members-few}
 
@@ -475,10 +476,10 @@ module _ {limit : ℕ} {t : List ℕ} (small : limit ≤ 16383) (f : WellFormed 
       let ψs = fixpoints t in
       let fs = formulas t in
       let own = complete small f (rule t) subformula.self in
-      let a : length (tableOf (normalForm ψs (rule t))) ≤ length (whole ψs fs (rule t) cs) =
-      subst (λ (χ : Formula). length (tableOf χ) ≤ length (whole ψs fs (rule t) cs)) (normalForm-disjoined t)
-      (table-length (whole ψs fs (rule t) cs) (whole-closed ψs fs (rule t) words-closed own fixpoints-inner cs) (foldl (bin disj) (part ψs (rule t) 0) (map (part ψs (rule t)) cs))
-      (sum-in ψs fs (rule t) words-closed own fixpoints-inner cs)) in
+      let a : length (tableOf (fold (normalForm ψs (rule t)))) ≤ length (whole ψs fs (rule t) cs) =
+      subst (λ (χ : Formula). length (tableOf (fold χ)) ≤ length (whole ψs fs (rule t) cs)) (normalForm-disjoined t)
+      (folded-length (foldl (bin disj) (part ψs (rule t) 0) (map (part ψs (rule t)) cs)) (whole ψs fs (rule t) cs)
+      (λ χ s. hereditary-sub (whole-closed ψs fs (rule t) words-closed own fixpoints-inner cs) s (sum-in ψs fs (rule t) words-closed own fixpoints-inner cs))) in
       let b : length (whole ψs fs (rule t) cs) ≤ suc (length cs) * (5 * length t + 3 * k + 1) + 2 =
       subst (λ (n : ℕ). length (whole ψs fs (rule t) cs) ≤ suc (length cs) * (5 * n + 3 * k + 1) + 2) (length-formulas t) (whole-length ψs fs (rule t) cs) in
       let c : suc (length cs) ≤ 2 ^ k = subst (λ (l : List ℕ). length l ≤ 2 ^ k) (choices-first k) (choices-length k) in

@@ -4,6 +4,5 @@ pub mod ChoiceOrder
 pub mod Distinct
 pub mod Subformulas
 pub mod LettersKept
-pub mod Pigeonhole
 pub mod LengthBound
 pub mod Promise

@@ -6,7 +6,7 @@ use mathlib.Core.Bool.{Bool, true, false, _&&_}
 use mathlib.Core.List.{List, List·Memᴰ}
 use lib.ListN.{length, getD}
 use lib.Dec.{T}
-use Rattle.logic.specs.Formula.{Formula, Binary, const, next, neg, finally, globally, conj, disj, until, weak, release, strong, implies}
+use Rattle.logic.specs.Formula.{Formula, Binary, next, neg, finally, globally, conj, disj, until, weak, release, strong, implies}
 use Rattle.logic.specs.NegationNormalForm.{isPlain, plainBinary}
 use Rattle.table.specs.Node.{Shape, none, constant, letter, unary, binary, kind, left, right, shape, kindOf, binaryKind, leftField, rightField}
 use Rattle.table.specs.Table.{formulas, formulaOf, formulaBy, rule}
@@ -15,17 +15,13 @@ use Rattle.table.specs.Checks.{isOperand, isProposition}
 use Rattle.table.proofs.Accepted.{WellFormed, accepted-formula}
 use Rattle.table.proofs.Shapes.{kindOf-shape}
 use Rattle.table.proofs.Formulas.{length-formulas}
-use Rattle.numbering.specs.Held.{Held}
 use Rattle.numbering.proofs.Accepted.{Plain, plain-small}
-use Rattle.numbering.proofs.Building.{held-within}
-use Rattle.numbering.proofs.Formulas.{Ordered, held-formula}
+use Rattle.numbering.proofs.Formulas.{Ordered}
+use Rattle.numbering.proofs.Lengths.{held-formulas}
 use Rattle.numbering.proofs.Subformulas.{word-sub}
-use Rattle.logic.specs.Subformula as subformula
 use Rattle.logic.specs.Subformula.{Sub, Numbers}
-use Rattle.logic.proofs.Letters.{letters-sub}
-use Rattle.logic.proofs.Normal.Membership.{numbers-keep}
+use Rattle.logic.proofs.Normal.Membership.{numbers-keep, mem-place}
 use Rattle.normal_laws.proofs.Distinct.{formula-held}
-use Rattle.normal_laws.proofs.Chosen.{mem-place, mem-at}
 
 both : (a b : Bool) → T a → T b → T (a && b)
 both true b p q = q
@@ -53,13 +49,6 @@ plain-by (binary o) h k n a b l p q =
     plain-operator release k = tt
     plain-operator strong k = tt
     plain-operator implies k = absurd (omega arith)
-
--- where a formula is held, so are its subformulas
-sub-held : (t : List ℕ) {ψ φ : Formula} → Sub ψ φ → (n : ℕ) → Held t φ n → (m : ℕ) × Held t ψ m
-sub-held t subformula.self n h = (n, h)
-sub-held t (subformula.under s) n h = sub-held t s (h .0) (h .1)
-sub-held t (subformula.left s) n h = sub-held t s (h .0) (h .2)
-sub-held t (subformula.right s) n h = sub-held t s (h .1) (h .3)
 
 module _ {limit : ℕ} {t : List ℕ} (small : limit ≤ 16383) (f : WellFormed true limit t) where
   -- every word's formula is plain
@@ -91,18 +80,9 @@ module _ {limit : ℕ} {t : List ℕ} (small : limit ≤ 16383) (f : WellFormed 
 
   -- every subformula of the rule is a word's formula
   pub complete : (ψ : Formula) → Sub ψ (rule t) → List·Memᴰ ψ (formulas t)
-  unfolding rule formulaOf
-  complete ψ s = go (h .0) (h .1) (held-within t ψ (h .0) (h .1))
-    where
-      h : (m : ℕ) × Held t ψ m
-      h = sub-held t s (length t) (formula-held f (length t) (f .some) (omega arith))
-
-      go : (m : ℕ) → Held t ψ m → (0 < m) × (m ≤ length t) → List·Memᴰ ψ (formulas t)
-      go zero x b = absurd (omega (arith, b .0))
-      go (suc i) x b =
-          let e : getD (formulas t) i (const false) ≡ ψ =
-          held-formula t ordered (omega (arith, f .few)) ψ (suc i) (letters-sub (λ p. p < 16384) s (plain-small (rule t) (rule-plain .1))) x in
-          subst (λ (χ : Formula). List·Memᴰ χ (formulas t)) e (mem-at (formulas t) i (omega (arith, length-formulas t, b .1)))
+  unfolding rule
+  complete =
+      held-formulas t ordered (omega (arith, f .few)) (rule t) (length t) (plain-small (rule t) (rule-plain .1)) (formula-held f (length t) (f .some) (omega arith))
 
   pub inside : (ψ : Formula) → List·Memᴰ ψ (formulas t) → Sub ψ (rule t)
   unfolding formulaOf

@@ -7,3 +7,4 @@ pub mod Used
 pub mod Subformulas
 pub mod Accepted
 pub mod Driven
+pub mod Lengths

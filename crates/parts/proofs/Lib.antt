@@ -1,2 +1,3 @@
--- A part, numbered from no numbers.
+-- A part, folded, and numbered from no numbers.
+pub mod Foldable
 pub mod Unnumbered

@@ -1,2 +1,2 @@
--- What the promise about a part cites.
-pub mod Ready
+-- What the promises about a part cite.
+pub mod Parts

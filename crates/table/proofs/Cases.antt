@@ -17,6 +17,7 @@ use Rattle.logic.specs.ClassByte.{classByte}
 use Rattle.logic.specs.NegationNormalForm as negation
 use Rattle.logic.specs.Rewriting.{steady, recurring, opening}
 use Rattle.logic.specs.NormalForm.{normalForm, choices, choicesOf, part, chosen, leastOf, greatestOf}
+use Rattle.logic.specs.Folding.{fold, foldUnary, foldBinary}
 use Rattle.logic.specs.Truth.{truth, sweep}
 use Rattle.logic.proofs.Tests.{T-and, T-beq, allPass, pass-at}
 use Rattle.logic.proofs.Lasso.Truth.{truth-holds}
@@ -84,7 +85,7 @@ test-right (class t b) h = eqb→eq (classByte (rule (body t))) b h
 test-right (judged t r bs) h = λ i l. Iff·trans (Iff·symm (truth-holds r (rule (body t)) i)) (rw zero-add at (match-at (truth r (rule (body t))) 0 bs h i l))
 
 all-pass : T (allPass test starred)
-unfolding allPass test sameList isRefusal matches normalTable plainTable fixpoints rule formulas formulasAfter formulaOf wordFormula kind left right pack shape tableOf build put find findFrom normalForm choices choicesOf part chosen leastOf greatestOf steady recurring opening same ones onesIn negation.plain classByte isWritten classOf headerOf isMisheaded headedChecked headedChecks wordsChecks wordChecks useChecks limitChecks fixpointChecks uses used occurs truth sweep word place letterIn bit decide ℕ-discrete
+unfolding allPass test sameList isRefusal matches normalTable plainTable fixpoints rule formulas formulasAfter formulaOf wordFormula kind left right pack shape tableOf build put find findFrom normalForm choices choicesOf part chosen leastOf greatestOf steady recurring opening fold foldUnary foldBinary same ones onesIn negation.plain classByte isWritten classOf headerOf isMisheaded headedChecked headedChecks wordsChecks wordChecks useChecks limitChecks fixpointChecks uses used occurs truth sweep word place letterIn bit decide ℕ-discrete
 all-pass = tt
 
 -- every starred case holds

@@ -77,10 +77,10 @@ starred =
     ∷ refused (0x00000001 ∷ 0x50004000 ∷ []) 6 1
     ∷ judged (0x001E8003 ∷ 0x30000001 ∷ 0x30000002 ∷ 0xB0008001 ∷ []) (once 1) (false ∷ [])
     ∷ judged (0x001F0003 ∷ 0x30000001 ∷ 0x30000002 ∷ 0xA0008001 ∷ []) (once 1) (true ∷ [])
-    -- of document 02, N5: the form of G p1; no header, and a count of 0; a count over the limit before one that differs; a count that differs; a
+    -- of document 02, N5 and N8: the form of G p1, without its "false or"; no header, and a count of 0; a count over the limit before one that differs; a count that differs; a
     -- header's class and its kind, after the words and their uses
     ∷ normal (0x001F0003 ∷ 0x10000000 ∷ 0x30000001 ∷ 0xA0004002 ∷ [])
-    (0x0014000A ∷ 0x10000000 ∷ 0x30000001 ∷ 0xA0004002 ∷ 0x60004003 ∷ 0xB0010002 ∷ 0x20000000 ∷ 0xA0004003 ∷ 0x80018007 ∷ 0x50014008 ∷ 0x60014009 ∷ [])
+    (0x00140009 ∷ 0x10000000 ∷ 0x30000001 ∷ 0xA0004002 ∷ 0xB000C002 ∷ 0x20000000 ∷ 0xA0004003 ∷ 0x80014006 ∷ 0x50010007 ∷ 0x60010008 ∷ [])
     ∷ refused [] 1 0
     ∷ refused (0x001FC000 ∷ 0x30000001 ∷ []) 1 0
     ∷ refused (0x00000041 ∷ 0x30000001 ∷ []) 2 0
@@ -99,8 +99,12 @@ starred =
     ∷ refusedBy (normalStep (house 256 0)) (0x001F0003 ∷ 0x30000001 ∷ 0x30000002 ∷ 0x90004002 ∷ []) 11 3
     -- of document 02, N7: of the two parts with one chosen word that of the outer word, G, comes first
     ∷ normal (0x00180007 ∷ 0x10000000 ∷ 0x40000001 ∷ 0x20000000 ∷ 0x30000002 ∷ 0x8000C004 ∷ 0x60008005 ∷ 0xA0004006 ∷ [])
-    (0x0010001B
-    ∷ 0x10000000 ∷ 0x40000001 ∷ 0x60008001 ∷ 0xA0004003 ∷ 0x60004004 ∷ 0x20000000 ∷ 0x30000002 ∷ 0x80018007 ∷ 0x60008008 ∷ 0xB0014009
-    ∷ 0xA0004004 ∷ 0x8001800B ∷ 0x5002800C ∷ 0x6002800D ∷ 0x90018007 ∷ 0x6000800F ∷ 0xA0004010 ∷ 0x60004011 ∷ 0xB0048009 ∷ 0x80018008
-    ∷ 0xA0004014 ∷ 0x5004C015 ∷ 0x60038016 ∷ 0xA0004011 ∷ 0x80018018 ∷ 0x50058019 ∷ 0x6005C01A ∷ [])
+    (0x00100011
+    ∷ 0x10000000 ∷ 0x40000001 ∷ 0xA0004002 ∷ 0x20000000 ∷ 0x30000002 ∷ 0x80010005 ∷ 0x60008006 ∷ 0xB000C007 ∷ 0xA0004003 ∷ 0x80010009
+    ∷ 0x5002000A ∷ 0x6002000B ∷ 0x80010006 ∷ 0xA000400D ∷ 0x5001C00E ∷ 0x6003000F ∷ 0x6004000F ∷ [])
+    -- of document 02, N8: the forms of G true, which is true, of p1 M false, which is false, and of false W (true M p1)
+    ∷ normal (0x001F0003 ∷ 0x10000000 ∷ 0x20000000 ∷ 0xA0004002 ∷ []) (0x001FC001 ∷ 0x20000000 ∷ [])
+    ∷ normal (0x001E8003 ∷ 0x30000001 ∷ 0x10000000 ∷ 0xB0004002 ∷ []) (0x001FC001 ∷ 0x10000000 ∷ [])
+    ∷ normal (0x00180005 ∷ 0x10000000 ∷ 0x20000000 ∷ 0x30000001 ∷ 0xB0008003 ∷ 0x90004004 ∷ [])
+    (0x0010000B ∷ 0x30000001 ∷ 0x10000000 ∷ 0x20000000 ∷ 0x8000C001 ∷ 0xA0008004 ∷ 0x50004005 ∷ 0x60004006 ∷ 0xA0008001 ∷ 0x8000C008 ∷ 0x50018009 ∷ 0x6001C00A ∷ [])
     ∷ []

@@ -7,6 +7,7 @@ use Rattle.logic.specs.ClassByte.{classByte}
 use Rattle.logic.specs.NegationNormalForm.{plain}
 use Rattle.logic.specs.NormalForm.{keep, isFixpoint, normalForm}
 use Rattle.logic.specs.Dialect.{dialect}
+use Rattle.logic.specs.Folding.{fold}
 use Rattle.table.specs.Table.{formulas, rule}
 use Rattle.table.specs.Numbering.{tableOf}
 
@@ -21,8 +22,9 @@ plainTable t = tableOf (plain true (rule t))
 unfoldable pub fixpoints : List ℕ → List Formula
 fixpoints t = keep isFixpoint (formulas t)
 
+-- the normal form is folded before it is numbered (document 02, N8)
 unfoldable pub normalTable : List ℕ → List ℕ
-normalTable t = tableOf (normalForm (fixpoints t) (rule t))
+normalTable t = tableOf (fold (normalForm (fixpoints t) (rule t)))
 
 unfoldable pub dialectTable : List ℕ → List ℕ
 dialectTable t = tableOf (dialect (rule t))

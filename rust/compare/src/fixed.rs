@@ -2,7 +2,10 @@
 use crate::generate::{with_table, with_text};
 use crate::input::Input;
 use crate::numbers::Numbers;
-use reference::edges::{chain_of, chain_of_ands, chain_of_next, headed, long_forms, long_forms_of_ten, nested};
+use reference::edges::{
+    chain_of, chain_of_ands, chain_of_next, constant_forms, headed, long_forms, long_forms_of_ten, long_unfolded, nested,
+    over_constants,
+};
 use reference::limits::Limits;
 use reference::rules::rules;
 use reference::texts::texts;
@@ -15,7 +18,8 @@ pub fn inputs() -> Vec<Input> {
     tables.extend((1..=10).flat_map(|k| [8, 9, 10, 11].map(|kind| chain_of(kind, k))));
     // conversions as long as any slice counts for, and longer
     tables.extend([8_190, 8_191].into_iter().flat_map(|k| [9, 11].map(|kind| chain_of(kind, k))));
-    tables.extend(long_forms().into_iter().map(|(_, words)| words));
+    tables.extend(long_forms().into_iter().chain(long_unfolded()).map(|(_, words)| words));
+    tables.extend(constant_forms().into_iter().map(|(_, words)| words));
     let mut inputs = Vec::new();
     for (n, table) in (0..).zip(tables.iter().map(|words| headed(words)).chain(headers())) {
         // several rooms and recordings each, under the program's limits and others by turns
@@ -27,7 +31,8 @@ pub fn inputs() -> Vec<Input> {
             });
         }
     }
-    inputs.extend((0..).zip(nested(3)).map(|(n, (_, words))| with_table(&mut Numbers::new(8, n), headed(&words))));
+    let nested = nested(3).into_iter().chain(over_constants(&["p2", "false", "true"]));
+    inputs.extend((0..).zip(nested).map(|(n, (_, words))| with_table(&mut Numbers::new(8, n), headed(&words))));
     for (n, (_, text)) in (0..).zip(texts()) {
         for text_table in [0, 1, 2, 10, 20, 63, 64, 65, 66, 70] {
             let of_letter = with_text(&mut Numbers::new(9, n), Limits::DESK, headed(&[0x3000_0001]), text.clone());

@@ -1,5 +1,5 @@
-//! Random inputs: valid tables in any word order, tables damaged by a bit or a word, too long and too short ones, damaged headers, limits
-//! around what the table has, and rooms at and around what the results need.
+//! Random inputs: valid tables in any word order, many of them full of constants, tables damaged by a bit or a word, too long and too short
+//! ones, damaged headers, limits around what the table has, and rooms at and around what the results need.
 use crate::input::Input;
 use crate::library::Reference;
 use crate::numbers::Numbers;
@@ -159,7 +159,8 @@ fn table_words(numbers: &mut Numbers) -> Vec<u32> {
     let plain = numbers.once_in(3);
     let until_like = numbers.one_of(&[0, 1, 2, 2, 3, 3, 3, 4, 4, 5, 6, 8, 9, 10, usize::MAX]);
     let letters = numbers.one_of(&[1, 2, 2, 3, 3, 4, 32]);
-    let words = Grown::new(numbers, size, plain, until_like, letters).words;
+    let constants = numbers.one_of(&[0, 0, 1, 2, 4]);
+    let words = Grown::new(numbers, size, plain, until_like, letters, constants).words;
     reordered(numbers, &words)
 }
 
@@ -172,11 +173,13 @@ struct Grown {
     seen: HashSet<(u32, usize, usize)>,
     loose: Vec<usize>,
     until_like: usize,
+    /// Of ten operands, so many are constants.
+    constants: usize,
 }
 
 impl Grown {
-    fn new(numbers: &mut Numbers, size: usize, plain: bool, until_like: usize, letters: usize) -> Grown {
-        let mut grown = Grown { words: vec![], seen: HashSet::new(), loose: vec![], until_like };
+    fn new(numbers: &mut Numbers, size: usize, plain: bool, until_like: usize, letters: usize, constants: usize) -> Grown {
+        let mut grown = Grown { words: vec![], seen: HashSet::new(), loose: vec![], until_like, constants };
         grown.leaf(numbers, letters);
         while grown.words.len() + grown.loose.len() < size + 1 {
             if size < 1000 && numbers.once_in(if grown.words.len() < 6 { 3 } else { 8 }) {
@@ -186,6 +189,7 @@ impl Grown {
                 grown.over(numbers, kind);
             }
         }
+        grown.constants = 0;
         while grown.loose.len() > 1 {
             let kind = numbers.one_of(&[5, 6]);
             grown.over(numbers, kind);
@@ -236,12 +240,22 @@ impl Grown {
     }
 
     fn operand(&mut self, numbers: &mut Numbers, other: usize) -> usize {
+        if numbers.below(10) < self.constants {
+            return self.constant(numbers);
+        }
         let loose: Vec<usize> = self.loose.iter().rev().take(40).copied().filter(|&n| n != other).collect();
         if !loose.is_empty() && !numbers.once_in(4) {
             numbers.one_of(&loose)
         } else {
             numbers.between(1, self.words.len())
         }
+    }
+
+    /// The number of the word false or true, which is put where there is none.
+    fn constant(&mut self, numbers: &mut Numbers) -> usize {
+        let kind = numbers.one_of(&[1, 2]);
+        self.put(kind, 0, 0);
+        1 + self.words.iter().position(|word| word.kind == kind).expect("it was put")
     }
 }
 

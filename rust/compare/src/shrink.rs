@@ -52,7 +52,7 @@ fn fitted(input: Input) -> Input {
 }
 
 /// Rooms and limits.
-const SIZES: [fn(&mut Input) -> &mut usize; 10] = [
+const SIZES: [fn(&mut Input) -> &mut usize; 11] = [
     |i| &mut i.text_table,
     |i| &mut i.bytes,
     |i| &mut i.plain,
@@ -63,6 +63,7 @@ const SIZES: [fn(&mut Input) -> &mut usize; 10] = [
     |i| &mut i.scratch,
     |i| &mut i.limits.written,
     |i| &mut i.limits.until_like,
+    |i| &mut i.limit,
 ];
 
 /// Changes that make an input smaller in one way, the boldest first.

@@ -7,9 +7,14 @@ use crate::run::compare;
 use crate::smallest_difference;
 use reference::checks::until_like;
 use reference::edges::headed;
+use reference::fold::fold;
+use reference::forest::{Forest, Node, Tree};
 use reference::header::{count, words};
 use reference::limits::Limits;
+use reference::listing::{list, needed};
 use reference::recording::Recording;
+use reference::steps::{unfolded, write};
+use std::collections::BTreeSet;
 
 /// The reference with one fault.
 struct Faulty {
@@ -42,6 +47,8 @@ enum Fault {
     UntilLikeUnreadForText,
     AtLeastProgramsWords,
     LastOverTheLimit,
+    NotFolded,
+    UnfoldedMeasured,
 }
 
 impl Faulty {
@@ -119,6 +126,22 @@ impl Library for Faulty {
 
     fn normal(&self, table: &[u32], limits: Limits, result: &mut [u32], words: &mut usize, place: &mut usize) -> u32 {
         let number = self.right.normal(table, self.limits(limits), result, words, place);
+        if number == 0 && matches!(self.fault, Fault::NotFolded | Fault::UnfoldedMeasured) {
+            let (forest, form) = unfolded(table, limits).expect("it has a form");
+            let mut unfolded = vec![0; result.len()];
+            match write(Ok(list(&forest, form)), &mut unfolded) {
+                Err(refusal) => {
+                    (*words, *place) = (0, refusal.place);
+                    result.fill(0);
+                    return refusal.number;
+                }
+                Ok(length) if self.fault == Fault::NotFolded => {
+                    *words = length;
+                    result[..length].copy_from_slice(&unfolded[..length]);
+                }
+                Ok(_) => {}
+            }
+        }
         if self.fault == Fault::LastOverTheLimit && number == 11 {
             *place = *until_like(&table[1..]).last().unwrap();
         }
@@ -225,6 +248,8 @@ fn faults_are_found_and_made_small() {
         Fault::UntilLikeUnreadForText,
         Fault::AtLeastProgramsWords,
         Fault::LastOverTheLimit,
+        Fault::NotFolded,
+        Fault::UnfoldedMeasured,
     ] {
         let smallest = found(fault);
         // three words and the header
@@ -236,4 +261,66 @@ fn faults_are_found_and_made_small() {
         assert!(smallest.samples.len() <= 1, "{smallest}");
         assert!(smallest.text.len() <= 2, "{smallest}");
     }
+}
+
+/// What folding comes upon in a form: an operator (of two, or X) with a constant for the left operand, for the right one, or for both.
+type Clause = (&'static str, Option<bool>, Option<bool>);
+
+fn clause(forest: &mut Forest, node: Node) -> Option<Clause> {
+    let (operator, a, b) = match node {
+        Node::And(a, b) => ("&", Some(a), b),
+        Node::Or(a, b) => ("|", Some(a), b),
+        Node::Until(a, b) => ("U", Some(a), b),
+        Node::Weak(a, b) => ("W", Some(a), b),
+        Node::Release(a, b) => ("R", Some(a), b),
+        Node::Strong(a, b) => ("M", Some(a), b),
+        Node::Next(b) => ("X", None, b),
+        _ => return None,
+    };
+    let mut constant = |operand: Tree| {
+        let folded = fold(forest, operand);
+        match forest.node(folded) {
+            Node::False => Some(false),
+            Node::True => Some(true),
+            _ => None,
+        }
+    };
+    let clause = (operator, a.and_then(&mut constant), constant(b));
+    (clause.1.is_some() || clause.2.is_some()).then_some(clause)
+}
+
+/// Every clause of folding comes up in random inputs, and so do forms that fold to false, to true, and to true by a part that is not the
+/// first.
+#[test]
+fn clauses_of_folding_come_up() {
+    let (mut clauses, mut to_false, mut to_true, mut late) = (BTreeSet::new(), 0, 0, 0);
+    for n in 0..3_000 {
+        let input = generate::input(&mut Numbers::new(1, n));
+        let Ok((mut forest, form)) = unfolded(&input.table, Limits::DESK) else { continue };
+        let trees = needed(&forest, form);
+        let folded = fold(&mut forest, form);
+        match forest.node(folded) {
+            Node::False => to_false += 1,
+            Node::True => {
+                to_true += 1;
+                // the first part is the leftmost operand of the or of all parts
+                let parts = 1 << until_like(words(&input.table)).len();
+                let first = (1..parts).fold(form, |tree, _| match forest.node(tree) {
+                    Node::Or(before, _) => before,
+                    _ => unreachable!("the parts are joined by or, from the left"),
+                });
+                late += (fold(&mut forest, first) != folded) as u32;
+            }
+            _ => {}
+        }
+        if trees.len() < 300 {
+            clauses.extend(trees.into_iter().filter_map(|tree| {
+                let node = forest.node(tree);
+                clause(&mut forest, node)
+            }));
+        }
+    }
+    // X has two; of two operands, each is false, true or no constant, and not both are none
+    assert_eq!(clauses.len(), 2 + 6 * 8, "{clauses:?}");
+    assert!(to_false >= 20 && to_true >= 20 && late >= 1, "{to_false} to false, {to_true} to true, {late} by a late part");
 }

@@ -10,13 +10,8 @@ pub fn convert(forest: &mut Forest, trees: &[Tree]) -> Vec<Tree> {
         let node = match forest.node(tree) {
             Node::Weak(a, b) => Node::Release(of(b), forest.grow(Node::Or(of(a), of(b)))),
             Node::Strong(a, b) => Node::Until(of(b), forest.grow(Node::And(of(a), of(b)))),
-            Node::And(a, b) => Node::And(of(a), of(b)),
-            Node::Or(a, b) => Node::Or(of(a), of(b)),
-            Node::Next(a) => Node::Next(of(a)),
-            Node::Until(a, b) => Node::Until(of(a), of(b)),
-            Node::Release(a, b) => Node::Release(of(a), of(b)),
             Node::Not(_) | Node::Finally(_) | Node::Globally(_) | Node::Implies(..) => panic!("a plain rule"),
-            leaf => leaf,
+            other => other.over(of),
         };
         let conversion = forest.grow(node);
         converted.insert(tree, conversion);

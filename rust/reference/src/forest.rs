@@ -24,6 +24,26 @@ pub enum Node {
     Implies(Tree, Tree),
 }
 
+impl Node {
+    /// The node over other operands, the left one asked for first.
+    pub fn over(self, mut of: impl FnMut(Tree) -> Tree) -> Node {
+        match self {
+            Node::And(a, b) => Node::And(of(a), of(b)),
+            Node::Or(a, b) => Node::Or(of(a), of(b)),
+            Node::Next(a) => Node::Next(of(a)),
+            Node::Until(a, b) => Node::Until(of(a), of(b)),
+            Node::Weak(a, b) => Node::Weak(of(a), of(b)),
+            Node::Release(a, b) => Node::Release(of(a), of(b)),
+            Node::Strong(a, b) => Node::Strong(of(a), of(b)),
+            Node::Not(a) => Node::Not(of(a)),
+            Node::Finally(a) => Node::Finally(of(a)),
+            Node::Globally(a) => Node::Globally(of(a)),
+            Node::Implies(a, b) => Node::Implies(of(a), of(b)),
+            leaf => leaf,
+        }
+    }
+}
+
 #[derive(Default)]
 pub struct Forest {
     nodes: Vec<Node>,

@@ -8,6 +8,7 @@ pub mod checks;
 pub mod class;
 pub mod dialect;
 pub mod edges;
+pub mod fold;
 pub mod forest;
 pub mod header;
 pub mod limits;

@@ -1,30 +1,41 @@
 //! The table of a tree: words as first needed, left operand, right operand, then the word; an identical word is used again.
 use crate::forest::{Forest, Node, Tree};
 use crate::word::Word;
-use std::collections::HashMap;
+use std::collections::{HashMap, HashSet};
 
-/// The words of a tree's table. Numbers are not held to the fields' 14 bits: a longer table fits no slice. Nothing here calls itself: a
-/// rule can be 16,383 words deep.
-pub fn list(forest: &Forest, root: Tree) -> Vec<Word> {
-    let mut words = Vec::new();
-    let mut numbers: HashMap<Tree, usize> = HashMap::new();
-    // trees without a number, each an operand of the one before
-    let mut needed = vec![root];
-    while let Some(&tree) = needed.last() {
-        let (kind, letter, operands) = parts(forest.node(tree));
-        if let Some(&operand) = operands.iter().find(|operand| !numbers.contains_key(operand)) {
-            needed.push(operand);
+/// The trees of a tree's table as first needed, each once, operands before what is made of them. Nothing here calls itself: a rule can be
+/// 16,383 words deep.
+pub fn needed(forest: &Forest, root: Tree) -> Vec<Tree> {
+    let mut listed = Vec::new();
+    let mut seen: HashSet<Tree> = HashSet::new();
+    // trees that are not listed yet, each an operand of the one before
+    let mut waiting = vec![root];
+    while let Some(&tree) = waiting.last() {
+        let (_, _, operands) = parts(forest.node(tree));
+        if let Some(&operand) = operands.iter().find(|operand| !seen.contains(operand)) {
+            waiting.push(operand);
             continue;
         }
-        words.push(match operands[..] {
+        seen.insert(tree);
+        listed.push(tree);
+        waiting.pop();
+    }
+    listed
+}
+
+/// The words of a tree's table. Numbers are not held to the fields' 14 bits: a longer table fits no slice.
+pub fn list(forest: &Forest, root: Tree) -> Vec<Word> {
+    let trees = needed(forest, root);
+    let numbers: HashMap<Tree, usize> = trees.iter().copied().zip(1..).collect();
+    let word = |&tree: &Tree| {
+        let (kind, letter, operands) = parts(forest.node(tree));
+        match operands[..] {
             [a, b] => Word::new(kind, numbers[&a], numbers[&b]),
             [a] => Word::new(kind, 0, numbers[&a]),
             _ => Word::new(kind, 0, letter),
-        });
-        numbers.insert(tree, words.len());
-        needed.pop();
-    }
-    words
+        }
+    };
+    trees.iter().map(word).collect()
 }
 
 /// The same as bits, for a table that is known to be short.

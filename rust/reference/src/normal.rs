@@ -3,7 +3,7 @@ use crate::forest::{Forest, Node, Tree};
 use std::cmp::Reverse;
 use std::collections::{BTreeSet, HashMap};
 
-/// The normal form of a rule, given its until-like subtrees in rising word number.
+/// The normal form of a rule, given its until-like subtrees in rising word number, before it is folded (`fold`).
 pub fn normal(forest: &mut Forest, rule: Tree, until_like: &[Tree]) -> Tree {
     let mut form = None;
     for choice in in_order(until_like.len()) {
@@ -120,17 +120,9 @@ impl Rewritings<'_> {
 
     /// The node itself, with its operands rewritten.
     fn down(&mut self, form: Form, node: Node) -> Tree {
-        let mut at = |tree: Tree| self.rewrite(form, tree);
         let node = match node {
-            Node::And(a, b) => Node::And(at(a), at(b)),
-            Node::Or(a, b) => Node::Or(at(a), at(b)),
-            Node::Next(a) => Node::Next(at(a)),
-            Node::Until(a, b) => Node::Until(at(a), at(b)),
-            Node::Weak(a, b) => Node::Weak(at(a), at(b)),
-            Node::Release(a, b) => Node::Release(at(a), at(b)),
-            Node::Strong(a, b) => Node::Strong(at(a), at(b)),
             Node::Not(_) | Node::Finally(_) | Node::Globally(_) | Node::Implies(..) => panic!("a plain rule"),
-            leaf => leaf,
+            plain => plain.over(|operand| self.rewrite(form, operand)),
         };
         self.forest.grow(node)
     }

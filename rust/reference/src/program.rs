@@ -108,10 +108,10 @@ mod tests {
     }
 
     #[test]
-    fn always_as_document_01_prints_it() {
+    fn always_as_document_02_prints_it() {
         let input = bytes(&[0x0000_0002, 0x3000_0001, 0xE000_0001]);
-        let words = "10000000 30000001 A0004002 60004003 B0010002 20000000 A0004003 80018007 50014008 60014009";
-        let expected: String = format!("11\n0014000A\n{}\n", words.replace(' ', "\n"));
+        let words = "10000000 30000001 A0004002 B000C002 20000000 A0004003 80014006 50010007 60010008";
+        let expected: String = format!("10\n00140009\n{}\n", words.replace(' ', "\n"));
         assert_eq!(printed("", &input), (expected.clone(), "".into()));
         assert_eq!(printed("text", b"Gp1\r\n"), (expected, "".into()));
         assert_eq!(printed("", &input[..7]), ("refused 18 at 0\n".into(), "".into()));
@@ -119,7 +119,7 @@ mod tests {
         // a file that is cut
         assert_eq!(printed("", &input[..8]), ("refused 23 at 0\n".into(), "".into()));
         assert_eq!(printed("", &input[..4]), ("refused 23 at 0\n".into(), "".into()));
-        let form = "(((false | (false R p1)) M p1) | (((false | (false R p1)) M p1) & (true U (false R (false R p1)))))\n";
+        let form = "(((false R p1) M p1) | (((false R p1) M p1) & (true U (false R (false R p1)))))\n";
         assert_eq!(printed("as-text", &input), (form.into(), "".into()));
         assert_eq!(printed("text as-text", b"Gp1"), (form.into(), "".into()));
     }

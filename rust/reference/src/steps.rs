@@ -3,7 +3,8 @@
 use crate::checks::{fits, until_like, Faults, Refusal};
 use crate::class::Classes;
 use crate::dialect::convert;
-use crate::forest::Forest;
+use crate::fold::fold;
+use crate::forest::{Forest, Tree};
 use crate::header::{header, words};
 use crate::limits::Limits;
 use crate::listing::list;
@@ -71,15 +72,22 @@ pub fn plain_words(table: &[u32], limits: Limits) -> Result<Vec<Word>, Refusal> 
     Ok(list(&forest, form))
 }
 
-/// The words of the normal form, by every check but 12.
-pub fn normal_words(table: &[u32], limits: Limits) -> Result<Vec<Word>, Refusal> {
+/// The normal form as document 01 builds it, before it is folded, by every check but 12.
+pub fn unfolded(table: &[u32], limits: Limits) -> Result<(Forest, Tree), Refusal> {
     limits.permitted()?;
     Faults::default().table(table, true, limits.plain()).until_like(words(table), limits.until_like).first()?;
     let mut forest = Forest::new();
     let trees = forest.of_words(words(table));
     let chosen: Vec<_> = until_like(words(table)).iter().map(|n| trees[n - 1]).collect();
     let form = normal_tree(&mut forest, trees[trees.len() - 1], &chosen);
-    Ok(list(&forest, form))
+    Ok((forest, form))
+}
+
+/// The words of the normal form, folded and then numbered (document 02, N8), by every check but 12.
+pub fn normal_words(table: &[u32], limits: Limits) -> Result<Vec<Word>, Refusal> {
+    let (mut forest, form) = unfolded(table, limits)?;
+    let folded = fold(&mut forest, form);
+    Ok(list(&forest, folded))
 }
 
 /// The words of the table in the dialect without W and M (document 02, N4), by every check but 12.

@@ -1,5 +1,5 @@
-//! Document 02's sentences about texts (N1), driven letters (N3), the dialect without W and M (N4), the header (N5) and the limits that a
-//! house sets (N6), held to the reference itself.
+//! Document 02's sentences about texts (N1), driven letters (N3), the dialect without W and M (N4), the header (N5), the limits that a
+//! house sets (N6), the order of the parts (N7) and folding (N8), held to the reference itself.
 use reference::checks::Refusal;
 use reference::edges::{chain_of, chain_of_next, headed};
 use reference::limits::Limits;
@@ -124,10 +124,11 @@ const ALWAYS: [u32; 3] = [0x0000_0002, 0x3000_0001, 0xE000_0001];
 #[test]
 fn always_is_listed_with_its_header() {
     let (mut plain, mut result) = ([7; 131], [7; 4_097]);
-    assert_eq!(form(&ALWAYS, Limits::DESK, &mut plain, &mut result), Ok(11));
+    assert_eq!(form(&ALWAYS, Limits::DESK, &mut plain, &mut result), Ok(10));
     assert_eq!(plain[..5], [0x001F_0003, 0x1000_0000, 0x3000_0001, 0xA000_4002, 7]);
-    assert_eq!(result[..4], [0x0014_000A, 0x1000_0000, 0x3000_0001, 0xA000_4002]);
-    assert_eq!(result[10..12], [0x6001_4009, 7]);
+    // N8's listing, and what stands past it stays
+    assert_eq!(result[..5], [0x0014_0009, 0x1000_0000, 0x3000_0001, 0xA000_4002, 0xB000_C002]);
+    assert_eq!(result[5..11], [0x2000_0000, 0xA000_4003, 0x8001_4006, 0x5001_0007, 0x6001_0008, 7]);
 }
 
 #[test]
@@ -257,12 +258,73 @@ fn the_place_of_11_is_the_first_word_over_the_limit() {
 // N7: of equally many chosen words the higher choice number comes first, so that the outer word's part does.
 #[test]
 fn outer_words_come_first_among_equals() {
-    // G F p1: word 4 is the inner U, word 5 the outer R
-    let table = [0x0018_0005, 0x1000_0000, 0x2000_0000, 0x3000_0001, 0x8000_8003, 0xA000_4004];
+    // (p1 U p2) W p3: word 3 is the inner U, word 5 the outer W
+    let table = headed(&[0x3000_0001, 0x3000_0002, 0x8000_4002, 0x3000_0003, 0x9000_C004]);
     let mut result = [0; 64];
     let length = normal(&table, Limits::DESK, &mut result).unwrap();
     let words = &result[1..length];
-    // the last conjunct of a part is F G for a chosen R, and G F for a chosen U
+    // the last conjunct of a part is F G for a chosen W, and G F for a chosen U
     let conjuncts = words.iter().filter(|&word| word >> 28 == 5).map(|word| words[(word & 0x3FFF) as usize - 1] >> 28);
     assert_eq!(conjuncts.take(2).collect::<Vec<_>>(), [8, 10]);
+}
+
+/// N8: the words of a text's form, and of its plain form and dialect, with all the room there is.
+fn form_of(typed: &str) -> Vec<u32> {
+    let table = read(typed, 65).expect("a rule");
+    let (mut plain, mut result) = ([0; 131], [7; 4_097]);
+    let length = form(&table, Limits::DESK, &mut plain, &mut result).expect("a form");
+    assert!(result[length..].iter().all(|&word| word == 7));
+    assert_eq!(result[..length], headed(&result[1..length]));
+    result[1..length].to_vec()
+}
+
+#[test]
+fn forms_are_folded() {
+    let (p1, p2, yes, no) = (0x3000_0001, 0x3000_0002, 0x2000_0000, 0x1000_0000);
+    for typed in ["true", "(p1 | true)", "X(p1 | X true)", "F(p1 -> true)", "G true", "(p1 W (p2 | true))", "(p1 U X true)"] {
+        assert_eq!(form_of(typed), [yes], "{typed}");
+    }
+    for typed in ["false", "(p1 & X false)", "(G p1 M false)", "(false M F p1)", "(F p1 R false)", "(F p1 U G false)"] {
+        assert_eq!(form_of(typed), [no], "{typed}");
+    }
+    assert_eq!(form_of("((p2 & X false) | (p1 & X true))"), [p1]);
+    // p1 or (p1 and GF p1), for a chosen U or M; p1 or (p1 and FG p1), for a chosen W or R
+    let again_and_again = [p1, no, yes, 0x8000_C001, 0xA000_8004, 0x5000_4005, 0x6000_4006];
+    let from_some_moment_on = [p1, yes, no, 0xA000_C001, 0x8000_8004, 0x5000_4005, 0x6000_4006];
+    assert_eq!([form_of("(false U p1)"), form_of("(true M p1)")], [again_and_again; 2]);
+    assert_eq!([form_of("(true R p1)"), form_of("(false W p1)")], [from_some_moment_on; 2]);
+    // no word stays that only a folded word used: p2 is numbered first, and p1 not at all
+    assert_eq!(form_of("((p1 M false) | (p2 & X p2))"), [p2, 0x7000_0001, 0x5000_4002]);
+}
+
+#[test]
+fn only_forms_are_folded() {
+    let table = headed(&[0x1000_0000, 0x3000_0001, 0x6000_4002, 0x2000_0000, 0x9000_C004]);
+    let mut result = [7; 20];
+    assert_eq!(read("((false | p1) W true)", 65), Ok(table.clone()));
+    let length = plain(&table, Limits::DESK, &mut result).expect("a plain form");
+    assert_eq!(result[..length], table);
+    // true R ((false or p1) or true)
+    let converted_words = [0x2000_0000, 0x1000_0000, 0x3000_0001, 0x6000_8003, 0x6001_0001, 0xA000_4005];
+    assert_eq!(converted(&table[1..], 9), Ok(converted_words.to_vec()));
+    assert_eq!(normal(&table, Limits::DESK, &mut result), Ok(2));
+    assert_eq!(result[..2], [0x001F_C001, 0x2000_0000]);
+}
+
+/// What 12 measures is the folded form, however long the unfolded one is, and however much of it stands before a part that is true.
+#[test]
+fn room_for_the_folded_form_is_enough() {
+    let told_with = |typed: &str, room: usize| {
+        let table = read(typed, 65).expect("a rule");
+        let mut result = vec![7; room];
+        let told = told(form(&table, Limits::DESK, &mut [0; 131], &mut result));
+        (told, result)
+    };
+    assert_eq!(told_with("Gp1", 10).0, (0, 0));
+    assert_eq!(told_with("Gp1", 9), ((12, 0), vec![0; 9]));
+    // the first part has its words, and the last one is true
+    let last_is_true = "(G(p1 U p2) | (p3 W X true))";
+    assert_eq!(told_with(last_is_true, 3), ((0, 0), vec![0x001F_C001, 0x2000_0000, 7]));
+    assert_eq!(told_with(last_is_true, 1), ((12, 0), vec![0]));
+    assert_eq!(told_with(last_is_true, 0), ((12, 0), vec![]));
 }

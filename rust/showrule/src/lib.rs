@@ -13,9 +13,9 @@
 //! let table = [showrule::header(0, 2), 0x3000_0001, 0xE000_0001];
 //! let (mut plain, mut result) = ([0; Limits::DESK.plain_room()], [0; 4097]);
 //! let form = showrule::form(&table, Limits::DESK, &mut plain, &mut result)?;
-//! assert_eq!(form.len(), 11);
-//! // class 50, ten words
-//! assert_eq!((form[0], form[10]), (0x0014_000A, 0x6001_4009));
+//! assert_eq!(form.len(), 10);
+//! // class 50, nine words
+//! assert_eq!((form[0], form[9]), (0x0014_0009, 0x6001_0008));
 //! # Ok::<(), showrule::Refusal>(())
 //! ```
 //!
@@ -184,13 +184,20 @@ pub fn plain_form<'a>(table: &[u32], limits: Limits, result: &'a mut [u32]) -> R
     Ok(&result[..length])
 }
 
-/// The normal form of a plain table, of at most [`Limits::plain_words`] words: the front part of `result`. What stands past it stays.
-/// Refused as 12, every word of the slice is 0; refused otherwise, it is as it was.
+/// The normal form of a plain table, of at most [`Limits::plain_words`] words: the front part of `result`. It is folded from its leaves
+/// upward: `false | a` is `a`, `a W true` is `true`, `X false` is `false` and so on, so that the whole form may be one word, and 12 measures
+/// the folded form. No other step folds. What stands past the form stays. Refused as 12, every word of the slice is 0; refused otherwise,
+/// it is as it was.
 ///
 /// ```
+/// use showrule::Limits;
 /// let finally = [0x001E_8003, 0x2000_0000, 0x3000_0001, 0x8000_4002];
 /// let mut result = [0; 4097];
-/// assert_eq!(showrule::normal_form(&finally, showrule::Limits::DESK, &mut result)?.len(), 9);
+/// assert_eq!(showrule::normal_form(&finally, Limits::DESK, &mut result)?.len(), 9);
+///
+/// // p1 W true, of three words, has the form true, of one
+/// let weak = [0x001F_0003, 0x3000_0001, 0x2000_0000, 0x9000_4002];
+/// assert_eq!(showrule::normal_form(&weak, Limits::DESK, &mut result[..2])?, [0x001F_C001, 0x2000_0000]);
 /// # Ok::<(), showrule::Refusal>(())
 /// ```
 pub fn normal_form<'a>(table: &[u32], limits: Limits, result: &'a mut [u32]) -> Result<&'a [u32], Refusal> {

@@ -1,6 +1,6 @@
 //! Every refusal of a table, a form and a recording: its number, its place and its sentence.
 use showrule::{
-    check, classify, dialect, form, from_text, judge, normal_form, plain_form, row, Limits, Recording, Refusal, Tally,
+    check, classify, dialect, form, from_text, judge, normal_form, plain_form, row, Limits, Recording, Refusal, Rule, Tally,
 };
 
 fn is<T: std::fmt::Debug>(answer: Result<T, Refusal>, number: u32, place: usize, sentence: &str) {
@@ -67,8 +67,22 @@ fn forms() {
     is(plain_form(&ALWAYS, Limits::DESK, &mut [7; 3]), 12, 0, "the result does not fit the slice of 3 that was lent for it");
     let form = |plain: &mut [u32], result: &mut [u32]| form(&ALWAYS, Limits::DESK, plain, result).map(|form| form.len());
     is(form(&mut [7; 3], &mut [7; 20]), 12, 0, "the result does not fit the slice of 3 that was lent for it");
-    is(form(&mut [7; 4], &mut [7; 10]), 12, 0, "the result does not fit the slice of 10 that was lent for it");
-    assert_eq!(form(&mut [7; 4], &mut [7; 11]), Ok(11));
+    is(form(&mut [7; 4], &mut [7; 9]), 12, 0, "the result does not fit the slice of 9 that was lent for it");
+    assert_eq!(form(&mut [7; 4], &mut [7; 10]), Ok(10));
+}
+
+/// What has to fit is the folded form, and no word of the slice past it is written.
+#[test]
+fn folded_forms() {
+    let late = "(F(true W p1) W G(p2 U p3))".parse::<Rule>().unwrap();
+    let mut result = [7; 3];
+    assert_eq!(form(&late, Limits::DESK, &mut [0; 131], &mut result).unwrap(), [0x001F_C001, 0x2000_0000]);
+    assert_eq!(result, [0x001F_C001, 0x2000_0000, 7]);
+    let short = form(&late, Limits::DESK, &mut [0; 131], &mut result[..1]);
+    is(short, 12, 0, "the result does not fit the slice of 1 that was lent for it");
+    assert_eq!(result, [0, 0x2000_0000, 7]);
+    let never = "G(F p1 & X false)".parse::<Rule>().unwrap();
+    assert_eq!(form(&never, Limits::DESK, &mut [0; 131], &mut result).unwrap(), [0x001F_C001, 0x1000_0000]);
 }
 
 #[test]

@@ -6,10 +6,10 @@ use Rattle.forms.proofs.small.Statement.{statement}
 use Rattle.forms.proofs.small.Tie as tie
 
 form-requires : tie.Need-form-requires
-form-requires c κs = formable shortSlots 2048 1023 (c .before .before .before .before .before .before .before .before .pre) (omega arith) (omega arith) (omega arith)
+form-requires c κs = formable shortSlots 2048 1023 (c .before .before .before .before .before .before .before .before .before .pre) (omega arith) (omega arith) (omega arith)
 
 returns : tie.Need-returns
-returns c = formed (c .before .before .before .before .before .before .before .before .before .before .before .before .before .before .before .pre .0 .table) 2048 (c .before .before .before .before .before .before .form .ensures)
+returns c = formed (c .before .before .before .before .before .before .before .before .before .before .before .before .before .before .before .before .before .pre .0 .table) 2048 (c .before .before .before .before .before .before .before .form .ensures)
 
 pub small-spec : {M : Type 1} → statement M
-small-spec = tie.close (tie.spec (λ c. search needs) (λ c. search needs) (λ c. search needs) (λ c. search needs) form-requires (λ c. search needs) returns)
+small-spec = tie.close (tie.spec (λ c. search needs) (λ c. search needs) (λ c. search needs) (λ c. search needs) (λ c. search needs) form-requires (λ c. search needs) returns)

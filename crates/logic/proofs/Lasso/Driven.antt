@@ -14,7 +14,7 @@ use Rattle.logic.proofs.Tests.{T-same, ⊎-iff, →-iff}
 use Rattle.logic.proofs.Lasso.Truth.{truth-holds}
 
 -- predicates that say the same at every position
-abbrev Same : Predicate → Predicate → Type 0
+abbrev pub Same : Predicate → Predicate → Type 0
 Same P Q = (k : ℕ) → P k ↔ Q k
 
 always-same : {P P′ : Predicate} → Same P P′ → Same (Always P) (Always P′)
@@ -32,7 +32,7 @@ strong-same f g i = (
   λ u. (u .0, u .1, f (u .0) .1 (u .2), λ j a b. g j .1 (u .3 j a b)),
 )
 
-binary-same : (o : Binary) {P P′ Q Q′ : Predicate} → Same P P′ → Same Q Q′ → Same (binary o P Q) (binary o P′ Q′)
+pub binary-same : (o : Binary) {P P′ Q Q′ : Predicate} → Same P P′ → Same Q Q′ → Same (binary o P Q) (binary o P′ Q′)
 binary-same conj f g i = Iff·and (f i) (g i)
 binary-same disj f g i = ⊎-iff (f i) (g i)
 binary-same until f g i = until-same f g i
@@ -41,7 +41,7 @@ binary-same release f g i = ⊎-iff (always-same g i) (strong-same f g i)
 binary-same strong f g i = strong-same f g i
 binary-same implies f g i = →-iff (f i) (g i)
 
-unary-same : (o : Unary) {P P′ : Predicate} → Same P P′ → Same (unary o P) (unary o P′)
+pub unary-same : (o : Unary) {P P′ : Predicate} → Same P P′ → Same (unary o P) (unary o P′)
 unary-same next f i = f (suc i)
 unary-same neg f i = →-iff (f i) Iff·rfl
 unary-same finally f i = binary-same until {P = Constant true} (λ k. Iff·rfl) f i

@@ -1,4 +1,4 @@
--- Membership in the lists of a normal form: the test `member`, the kept elements, the numbers from one on and below one, joined lists.
+-- Membership in the lists of a normal form: the test `member`, the kept elements, the numbers from one on and below one, joined lists, and at which places elements stand.
 use Prim.Native.Nat.{ℕ, zero, suc, _+_, _≤_, _<_}
 use native.Mathlib.Nat.{eq-or-lt-of-le}
 use native.Mathlib.Omega.{arith}
@@ -7,8 +7,9 @@ use mathlib.Core.Bool.{Bool, true, false, cond, decide, Bool-discrete}
 use mathlib.Core.Logic.{_⊎_, inl, inr, ⊎-elim}
 use mathlib.Core.List.{List, [], _∷_, List·Memᴰ, List·Memᴰ·head, List·Memᴰ·tail, List·Memᴰ·not-nil, List·Memᴰ·cases-cons, Memᴰ·append-left, Memᴰ·append-right}
 use native.Mathlib.Decide.{ℕ-discrete}
+use lib.ListN.{length, getD}
 use lib.Dec.{T}
-use Rattle.logic.specs.Formula.{Formula, same, Formula-discrete, Unary-discrete, Binary-discrete}
+use Rattle.logic.specs.Formula.{Formula, const, same, Formula-discrete, Unary-discrete, Binary-discrete}
 use Rattle.logic.specs.NormalForm.{isFixpoint, keep, member, from, below, joinAll}
 use Rattle.logic.specs.Subformula.{Sub, Numbers}
 use Rattle.logic.proofs.Tests.{T-or}
@@ -92,3 +93,13 @@ numbers-keep l complete inside =
       complete = λ ψ s t. keep-mem isFixpoint t (complete ψ s);
       inside = λ ψ m. inside ψ (mem-keep isFixpoint l m .0);
     }
+
+-- an element has a place
+pub mem-place : {φ : Formula} {l : List Formula} → List·Memᴰ φ l → (i : ℕ) × (i < length l) × (getD l i (const false) ≡ φ)
+mem-place (List·Memᴰ·head e) = (0, omega arith, sym e)
+mem-place (List·Memᴰ·tail m) = let r = mem-place m in (suc (r .0), omega (arith, r .1), r .2)
+
+pub mem-at : (l : List Formula) (i : ℕ) → i < length l → List·Memᴰ (getD l i (const false)) l
+mem-at [] i h = absurd (omega arith)
+mem-at (x ∷ l) zero h = List·Memᴰ·head refl
+mem-at (x ∷ l) (suc i) h = List·Memᴰ·tail (mem-at l i (omega arith))

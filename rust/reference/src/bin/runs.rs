@@ -2,7 +2,7 @@
 //! what it must print, and NAME.err what it must say on standard error where that is something.
 //!
 //!     runs FOLDER
-use reference::edges::{chain_of, chain_of_ands, chain_of_next, headed, long_forms, nested};
+use reference::edges::{chain_of, chain_of_ands, chain_of_next, constant_forms, headed, long_forms, long_unfolded, nested};
 use reference::program::{Printed, Run};
 use reference::rules::rules;
 use reference::texts::texts;
@@ -181,6 +181,12 @@ fn tables() -> Vec<(String, Vec<u32>)> {
     }
     for (form_words, words) in long_forms().into_iter().filter(|(_, words)| words.len() <= 64) {
         add(&format!("form of {form_words}"), &words);
+    }
+    for (form_words, words) in long_unfolded().into_iter().filter(|(_, words)| words.len() <= 64) {
+        add(&format!("form of {form_words} before it is folded"), &words);
+    }
+    for (n, (_, words)) in (1..).zip(constant_forms()) {
+        add(&format!("constant form {n}"), &words);
     }
     for (name, words) in rules() {
         add(&format!("rule {name}"), &words);

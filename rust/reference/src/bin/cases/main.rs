@@ -4,6 +4,7 @@
 //!     cases FOLDER list   prints the label of each case, a line for each line of stdout
 mod case;
 mod dialect;
+mod folding;
 mod forms;
 mod headers;
 mod judging;
@@ -17,9 +18,9 @@ use std::{env, fs, path::Path};
 fn main() {
     let folder = env::args().nth(1).expect("usage: cases FOLDER");
     let folder = Path::new(&folder);
+    let forms = [forms::cases(), folding::cases()].concat();
     let cases: Vec<Case> =
-        [tables::cases(), headers::cases(), forms::cases(), judging::cases(), texts::cases(), dialect::cases(), limits::cases()]
-            .concat();
+        [tables::cases(), headers::cases(), forms, judging::cases(), texts::cases(), dialect::cases(), limits::cases()].concat();
     if env::args().nth(2).is_some() {
         cases.iter().for_each(|case| println!("{}", case.label));
         return;

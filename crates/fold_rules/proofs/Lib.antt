@@ -1,0 +1,2 @@
+-- The rules by kinds.
+pub mod ByKind

@@ -1,0 +1,2 @@
+-- What the promises about folding a word cite.
+pub mod Rules

@@ -1,0 +1,2 @@
+-- What the promises about folding a draft cite.
+pub mod Folded

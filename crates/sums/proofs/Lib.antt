@@ -1,0 +1,2 @@
+-- The laws of a sum that grows.
+pub mod Growth

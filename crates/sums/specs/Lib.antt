@@ -1,0 +1,2 @@
+-- What the promises about sums of parts cite.
+pub mod Summed

@@ -1,0 +1,2 @@
+-- The laws of a look at the parts.
+pub mod Looks
