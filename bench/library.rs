@@ -13,7 +13,7 @@ extern "C" {
     ) -> u32;
     fn showrule_judge(
         table: *const u32, words: usize, samples: *const u32, count: usize, start: usize, driven: usize, scratch: *mut u64,
-        len: usize, judged: *mut u32, held: *mut u32, holds: *mut bool, moments: *mut usize, failing: *mut usize, place: *mut usize,
+        len: usize, tallies: *mut [u32; 2], desks: usize, desk: usize, holds: *mut bool, moments: *mut usize, failing: *mut usize, place: *mut usize,
     ) -> u32;
 }
 
@@ -142,16 +142,16 @@ pub struct Recording<'a> {
     pub driven: usize,
 }
 
-// Whether the rule holds at moment 0, at how many moments, and the first failing moment. The tally goes in as zeros.
+// Whether the rule holds at moment 0, at how many moments, and the first failing moment. The one desk's tally goes in as zeros.
 pub type Answer = (bool, usize, usize);
 
 pub fn judge(table: &[u32], recording: Recording, scratch: &mut [u64]) -> Result<Answer, Refused> {
     let Recording { samples, start, driven } = recording;
-    let (mut judged, mut held, mut holds, mut moments, mut failing, mut place) = (0, 0, false, 0, 0, 0);
+    let (mut tally, mut holds, mut moments, mut failing, mut place) = ([0, 0], false, 0, 0, 0);
     let number = unsafe {
         showrule_judge(
             table.as_ptr(), table.len(), samples.as_ptr(), samples.len(), start, driven, scratch.as_mut_ptr(),
-            scratch.len(), &mut judged, &mut held, &mut holds, &mut moments, &mut failing, &mut place,
+            scratch.len(), &mut tally, 1, 0, &mut holds, &mut moments, &mut failing, &mut place,
         )
     };
     reply(number, place, (holds, moments, failing))

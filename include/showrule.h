@@ -17,8 +17,7 @@
  *   - A slice is a pointer and then its length, in elements, not in bytes. It is memory of the caller, aligned for its element, that
  *     may be read, and where the pointer is to non-const also written, for that length. Of length 0 it is the empty slice, whatever
  *     the pointer, the null pointer too.
- *   - A pointer to a single number (place, form_length, ..) is never null. What the number held before a call matters only for
- *     judged and held.
+ *   - A pointer to a single number (place, form_length, ..) is never null. What the number held before a call does not matter.
  *   - A slice or number that is written lies apart from every other slice and number of the same call.
  *   - A bool is 0 or 1.
  *   - A call needs stack. 512 KB have been enough for the longest and the deepest rules, and 1 MB for showrule_dialect, which has some
@@ -54,14 +53,15 @@ enum {
     SHOWRULE_TOO_MANY_SAMPLES = 14,    /* it has over 4,096 */
     SHOWRULE_LOOP_START_OUTSIDE = 15,  /* the loop start is not below the number of samples */
     SHOWRULE_SCRATCH_TOO_SHORT = 16,   /* the scratch is shorter than the rows */
-    SHOWRULE_TALLY_FULL = 17,          /* judged is 4,294,967,295, or held exceeds judged */
+    SHOWRULE_TALLY_FULL = 17,          /* the named desk's judged is 4,294,967,295, or its held exceeds its judged */
     SHOWRULE_NOT_GRAMMAR = 19,         /* the text departs from the grammar; the place is the byte at which it does */
     SHOWRULE_TEXT_TOO_LONG = 20,       /* the text has over 1,024 bytes */
     SHOWRULE_LETTER_NOT_DRIVEN = 21,   /* a word names a letter that the recording does not drive; the place is the lowest such word */
     SHOWRULE_TOO_MANY_DRIVEN = 22,     /* the recording says that it drives over 32 letters */
     SHOWRULE_COUNT_DIFFERS = 23,       /* the count in the header is not the number of words after it */
     SHOWRULE_WRONG_HEADER = 24,        /* the header's kind is not 0, or its class not that of the table */
-    SHOWRULE_LIMITS_OUTSIDE = 25       /* the limit on written words is not 1 to 256, or that on until-like words not 0 to 10 */
+    SHOWRULE_LIMITS_OUTSIDE = 25,      /* the limit on written words is not 1 to 256, or that on until-like words not 0 to 10 */
+    SHOWRULE_DESK_OUTSIDE = 26         /* the desk's number is not below the number of tallies */
 };
 
 /* The most of each that a call takes; of words, beside the header. */
@@ -147,20 +147,28 @@ uint32_t showrule_dialect(const uint32_t *table, size_t length, uint32_t *result
 uint32_t showrule_form(const uint32_t *table, size_t length, size_t written, size_t until_like, uint32_t *plain, size_t plain_room,
                        uint32_t *result, size_t room, size_t *form_length, size_t *place);
 
+/* The tally of a desk: how many accepted judgements named it, and how many of those held at moment 0. A house has a slice of them, one for
+ * each desk, and begins with zeros. */
+typedef struct showrule_tally {
+    uint32_t judged;
+    uint32_t held;
+} showrule_tally;
+
 /* Judges a rule, a table of at most 16,383 words, written or plain, over a recording of `count` samples: after the last comes the one at
  * the loop start again, for ever. The recording drives the letters 1 to `driven`, 0 to 32 of them: a rule that names a higher one is
- * refused by 21, and the bits of the samples above the driven ones are never looked at. The checks of a table, then 13 to 15, 22, 21, 16
- * and 17, in this order. Accepted, *holds says whether the rule holds at moment 0, *moments at how many of the recorded moments, *failing
- * is the first of them at which it fails (count if none); *judged is one more, and so is *held if it held at moment 0. The scratch then
- * starts with a row for each word, in their order, the header having none, each of (count + 63) / 64 words of 64 bits: moment i is bit
- * i % 64 of the row's word i / 64, unused high bits are 0; later words stay. Refused, *holds is false, *moments and *failing are 0, and
- * *judged, *held and the scratch are as they were. */
+ * refused by 21, and the bits of the samples above the driven ones are never looked at. The judgement names the desk that it is for, by its
+ * place among the tallies, counted from 0. The checks of a table, then 13 to 15, 22, 21, 16, 26 and 17, in this order; 17 looks at the
+ * named desk's tally only. Accepted, *holds says whether the rule holds at moment 0, *moments at how many of the recorded moments,
+ * *failing is the first of them at which it fails (count if none); tallies[desk].judged is one more, and so is tallies[desk].held if it
+ * held at moment 0, and the other tallies stay. The scratch then starts with a row for each word, in their order, the header having none,
+ * each of (count + 63) / 64 words of 64 bits: moment i is bit i % 64 of the row's word i / 64, unused high bits are 0; later words stay.
+ * Refused, *holds is false, *moments and *failing are 0, and the tallies and the scratch are as they were. */
 uint32_t showrule_judge(const uint32_t *table, size_t length, const uint32_t *samples, size_t count, size_t start, size_t driven,
-                        uint64_t *scratch, size_t room, uint32_t *judged, uint32_t *held, bool *holds, size_t *moments, size_t *failing,
-                        size_t *place);
+                        uint64_t *scratch, size_t room, showrule_tally *tallies, size_t desks, size_t desk, bool *holds, size_t *moments,
+                        size_t *failing, size_t *place);
 
-/* The row call: the rows of showrule_judge, with no tally and so without check 17. Accepted, the rule's own row is the part of the scratch
- * of *row_words words from scratch[*from] on. Refused, both are 0, and the scratch is as it was. */
+/* The row call: the rows of showrule_judge, with no tally and so without checks 26 and 17. Accepted, the rule's own row is the part of
+ * the scratch of *row_words words from scratch[*from] on. Refused, both are 0, and the scratch is as it was. */
 uint32_t showrule_row(const uint32_t *table, size_t length, const uint32_t *samples, size_t count, size_t start, size_t driven,
                       uint64_t *scratch, size_t room, size_t *from, size_t *row_words, size_t *place);
 

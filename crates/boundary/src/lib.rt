@@ -8,9 +8,11 @@ ghost use Rattle.table.specs.Header.{body, headedChecked};
 ghost use Rattle.table.specs.Frame.{classStep, plainStep, normalStep, dialectStep, outcomeOf, answerOf, resultOf};
 ghost use Rattle.text.specs.Text.{textStep};
 ghost use Rattle.claims.specs.Whole.{wholeAnswer, wholeResult};
-ghost use Rattle.judging.specs.Judging.{judgeOutcome, rowOutcome, scratchAfter};
+ghost use Rattle.judging.specs.Judging.{judgeOutcome, rowOutcome, scratchAfter, deskOf, talliesAfter};
 ghost use Rattle.judging.specs.Judging.{reply as judgeReply};
 ghost use Rattle.replies.specs.Replies.{FormReply, JudgeReply, RowReply};
+use judge_calls::judge;
+use tally::Tally;
 
 #[no_mangle]
 pub extern "C" fn showrule_check(table: &[u32], plain: bool, limit: usize, place: &mut usize) -> u32
@@ -121,41 +123,54 @@ pub extern "C" fn showrule_dialect(
 }
 
 // Whether the rule holds at the first position, at how many, and the first that fails, over a recording that drives the letters 1 to
-// `driven`; the tally goes in and comes back in the two lent numbers.
+// `driven`. One tally for each desk is lent, and the judgement is counted in that of the desk that it names.
 #[no_mangle]
-pub extern "C" fn showrule_judge(
-    table: &[u32],
-    samples: &[u32],
+pub extern "C" fn showrule_judge<'a, 'd>(
+    table: &'a [u32],
+    samples: &'a [u32],
     start: usize,
     driven: usize,
-    scratch: &mut [u64],
-    judged: &mut u32,
-    held: &mut u32,
-    holds: &mut bool,
-    moments: &mut usize,
-    failing: &mut usize,
-    place: &mut usize,
+    scratch: &'a mut [u64],
+    tallies: &'d mut [Tally],
+    desk: usize,
+    holds: &'a mut bool,
+    moments: &'a mut usize,
+    failing: &'a mut usize,
+    place: &'a mut usize,
 ) -> u32
     ensures { λ r. ⌜ JudgeReply
-        (judgeReply (now (table .entry)) (now (samples .entry)) start driven (now (scratch .entry)) (record { judged = now (judged .entry); held = now (held .entry) }))
-        r (now (judged .exit)) (now (held .exit)) (now (holds .exit)) (now (moments .exit)) (now (failing .exit)) (now (place .exit)) ⌝ }
-    ensures { λ r. ⌜ now (scratch .exit) ≡ scratchAfter
-        (judgeOutcome (now (table .entry)) (now (samples .entry)) start driven (now (scratch .entry)) (record { judged = now (judged .entry); held = now (held .entry) }))
-        (now (table .entry)) (now (samples .entry)) start driven (now (scratch .entry)) ⌝ }
+        (judgeReply (now (table .entry)) (now (samples .entry)) start driven (now (scratch .entry)) (deskOf (now (tallies .entry)) desk) .answer)
+        r (now (holds .exit)) (now (moments .exit)) (now (failing .exit)) (now (place .exit))
+        × ((now (tallies .exit) ≡ talliesAfter
+        (judgeReply (now (table .entry)) (now (samples .entry)) start driven (now (scratch .entry)) (deskOf (now (tallies .entry)) desk) .answer)
+        (now (tallies .entry)) desk)
+        × (now (scratch .exit) ≡ scratchAfter
+        (judgeOutcome (now (table .entry)) (now (samples .entry)) start driven (now (scratch .entry)) (deskOf (now (tallies .entry)) desk))
+        (now (table .entry)) (now (samples .entry)) start driven (now (scratch .entry)))) ⌝ }
 {
-    judge_calls::judge(
+    let desks = tallies.len();
+    let mut tally = Tally { judged: 0, held: 0 };
+    if desk < desks {
+        tally = tallies[desk];
+    }
+    let called = judge(
         table,
         samples,
         start,
         driven,
         scratch,
-        judged,
-        held,
+        desks,
+        desk,
+        tally,
         holds,
         moments,
         failing,
         place,
-    )
+    );
+    if desk < desks {
+        tallies[desk] = called.tally;
+    }
+    called.number
 }
 
 // The row call: which part of the scratch is the rule's own row, by its first word and its length.

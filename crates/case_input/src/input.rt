@@ -1,11 +1,11 @@
 // The runner's input: words, and the tables and recordings that a case is about.
 
-// A case in 17 words, in this order: the step (1 check, 2 class, 3 plain form, 4 normal form, 5 whole way, 6 judge, 7 row call, 8 text,
+// A case in 19 words, in this order: the step (1 check, 2 class, 3 plain form, 4 normal form, 5 whole way, 6 judge, 7 row call, 8 text,
 // 9 dialect); how many words of a chain the table has after its header, and how many are listed, the header and those after the chain; the
 // number of a word that is replaced, the header being the first (0: none), and the word; the limits of the house, on written words and on
 // fixpoints; the rooms of the lent slices; whether plain tables only, and the limit, of the check; the number of samples, the loop start,
-// the driven count, the tally, and the seed of the samples (0: they are listed). The listed words follow, of a text a byte a word, then the
-// listed samples.
+// the driven count, how many desks have a tally, the number of the desk that is named, its tally, and the seed of the samples (0: they are
+// listed). The listed words follow, of a text a byte a word, then the listed samples.
 pub struct Case {
     pub step: u32,
     pub chain: usize,
@@ -21,12 +21,14 @@ pub struct Case {
     pub samples: usize,
     pub start: usize,
     pub driven: usize,
+    pub desks: usize,
+    pub desk: usize,
     pub judged: u32,
     pub held: u32,
     pub seed: u64,
 }
 
-pub fn case_of(w: [u32; 17]) -> Case {
+pub fn case_of(w: [u32; 19]) -> Case {
     Case {
         step: w[0],
         chain: w[1] as usize,
@@ -42,9 +44,11 @@ pub fn case_of(w: [u32; 17]) -> Case {
         samples: w[11] as usize,
         start: w[12] as usize,
         driven: w[13] as usize,
-        judged: w[14],
-        held: w[15],
-        seed: w[16] as u64,
+        desks: w[14] as usize,
+        desk: w[15] as usize,
+        judged: w[16],
+        held: w[17],
+        seed: w[18] as u64,
     }
 }
 

@@ -2,33 +2,40 @@
 use case_input::input::Case;
 use case_output::show;
 use case_output::sum;
+use tally::Tally;
 
-pub fn judge(c: Case, table: &[u32], samples: &[u32]) {
+// By the call that takes the named desk's tally by value: a function that lends a slice of tallies is not covered.
+pub fn judge<'t>(c: Case, table: &'t [u32], samples: &'t [u32]) {
     let mut scratch = [18446744073709551615u64; 2100];
-    let mut judged = c.judged;
-    let mut held = c.held;
+    let mut tally = Tally {
+        judged: c.judged,
+        held: c.held,
+    };
     let mut holds = true;
     let mut moments: usize = 9;
     let mut failing: usize = 9;
     let mut place: usize = 9;
     let room = c.room;
     if room <= 2100 {
-        let number = boundary::showrule_judge(
+        let called = judge_calls::judge(
             table,
             samples,
             c.start,
             c.driven,
             &mut scratch[0..room],
-            &mut judged,
-            &mut held,
+            c.desks,
+            c.desk,
+            tally,
             &mut holds,
             &mut moments,
             &mut failing,
             &mut place,
         );
-        show::answer(number, place);
+        show::answer(called.number, place);
+        let after = called.tally;
+        tally = after;
     }
-    judged_shown(holds, moments, failing, judged, held);
+    judged_shown(holds, moments, failing, tally.judged, tally.held);
     sum::scratch(&scratch);
 }
 

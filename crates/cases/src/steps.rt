@@ -3,7 +3,7 @@ use case_input::input;
 use case_input::input::Case;
 use case_output::show;
 
-fn call(c: Case, table: &[u32], samples: &[u32]) {
+fn call<'t>(c: Case, table: &'t [u32], samples: &'t [u32]) {
     let step = c.step;
     match step {
         1 => case_forms::check(c, table),
@@ -20,7 +20,7 @@ fn call(c: Case, table: &[u32], samples: &[u32]) {
 }
 
 // The call on the first n samples.
-fn on_samples(c: Case, table: &[u32], samples: &[u32; 4100]) {
+fn on_samples<'t>(c: Case, table: &'t [u32], samples: &'t [u32; 4100]) {
     let all: &[u32] = samples;
     let n = c.samples;
     if n <= all.len() {
@@ -72,7 +72,7 @@ fn tabled(c: Case) -> bool {
 
 // The next case; whether there was one.
 pub fn one() -> bool {
-    let mut head = [0u32; 17];
+    let mut head = [0u32; 19];
     let there = input::words(&mut head);
     there && tabled(input::case_of(head))
 }

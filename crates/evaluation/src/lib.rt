@@ -1,5 +1,6 @@
 // Judging a rule over a looped recording: the rows of all its words, the answer read off the last one, and the tally.
 ghost use mathlib.Core.Path.{_≡_};
+ghost use mathlib.Core.Bool.{false};
 ghost use Prim.Native.Nat.{ℕ, _≤_};
 ghost use Rattle.row_words.specs.Writing.{RowFor};
 ghost use Rattle.row_words.specs.Row as rows;
@@ -8,9 +9,7 @@ ghost use Rattle.refusals.specs.declared.Outcome.the-variants.{Accepted};
 ghost use Rattle.table.specs.Table.{formulas, rule};
 ghost use Rattle.row_filling.specs.Filling.{Fillable, lassoOf, rowsThen};
 ghost use Rattle.judging.specs.Judging.{judgeOutcome, judgement, replyBy, reply, scratchAfter};
-ghost use Rattle.judge_conditions.specs.Checks.{tallyChecks};
-ghost use Rattle.refusals.specs.Refusals.{first};
-ghost use Rattle.tally.specs.Tallies.{tallyAfter};
+ghost use Rattle.tally.specs.Tallies.{isFull, tallyAfter};
 use judge_checks::checks::check_judge;
 use judging::answer::Judged;
 use judging::answer::Judgement;
@@ -20,6 +19,7 @@ use row_reading::count_held;
 use row_reading::first_failing;
 use row_reading::holds_at;
 use row_words::word::row_words;
+use tally::Desk;
 use tally::Tally;
 
 // The answer off the rule's row, and the tally after it.
@@ -51,7 +51,7 @@ fn judge_accepted(
     tally: Tally,
 ) -> Judged
     requires { ⌜ Fillable (now table) (now samples) start (now scratch) ⌝ }
-    ensures { λ r. ⌜ ((driven : ℕ) → driven ≤ 32 → first (tallyChecks tally) ≡ Accepted
+    ensures { λ r. ⌜ ((driven : ℕ) → driven ≤ 32 → isFull tally ≡ false
         → r ≡ replyBy Accepted (lassoOf (now (samples .entry)) start driven) (rule (now (table .entry))) tally) ⌝ }
     ensures { λ _. ⌜ ((driven : ℕ) → driven ≤ 32
         → now (scratch .exit) ≡ rowsThen (lassoOf (now (samples .entry)) start driven) (formulas (now (table .entry))) (now (scratch .entry))) ⌝ }
@@ -70,16 +70,20 @@ pub fn judge(
     start: usize,
     driven: usize,
     scratch: &mut [u64],
-    tally: Tally,
+    desk: Desk,
 ) -> Judged
-    ensures { λ r. ⌜ r ≡ reply (now (table .entry)) (now (samples .entry)) start driven (now (scratch .entry)) tally ⌝ }
-    ensures { λ _. ⌜ now (scratch .exit) ≡ scratchAfter (judgeOutcome (now (table .entry)) (now (samples .entry)) start driven (now (scratch .entry)) tally) (now (table .entry)) (now (samples .entry)) start driven (now (scratch .entry)) ⌝ }
+    ensures { λ r. ⌜ r ≡ reply (now (table .entry)) (now (samples .entry)) start driven (now (scratch .entry)) desk ⌝ }
+    ensures { λ _. ⌜ now (scratch .exit) ≡ scratchAfter (judgeOutcome (now (table .entry)) (now (samples .entry)) start driven (now (scratch .entry)) desk) (now (table .entry)) (now (samples .entry)) start driven (now (scratch .entry)) ⌝ }
 {
-    match check_judge(table, samples.len(), start, driven, scratch.len(), tally) {
+    match check_judge(table, samples.len(), start, driven, scratch.len(), desk) {
         Outcome::Refused(why) => {
             let answer = Judgement::Refused(why);
+            let tally = desk.tally;
             Judged { answer, tally }
         }
-        Outcome::Accepted => judge_accepted(&table[1..], samples, start, scratch, tally),
+        Outcome::Accepted => {
+            let tally = desk.tally;
+            judge_accepted(&table[1..], samples, start, scratch, tally)
+        }
     }
 }

@@ -2,10 +2,10 @@
 ghost use mathlib.Core.Path.{_≡_};
 ghost use Rattle.refusals.specs.Refusals.{first};
 ghost use Rattle.judge_conditions.specs.Checks.{rowChecks, judgeChecks};
+use lent_checks::check_desk;
 use lent_checks::check_memory;
-use lent_checks::check_tally;
 use refusals::Outcome;
-use tally::Tally;
+use tally::Desk;
 
 // The row call's.
 pub fn check_row(
@@ -30,12 +30,12 @@ pub fn check_judge(
     start: usize,
     driven: usize,
     scratch: usize,
-    tally: Tally,
+    desk: Desk,
 ) -> Outcome
-    ensures { λ r. ⌜ r ≡ first (judgeChecks (now (table .entry)) samples start driven scratch tally) ⌝ }
+    ensures { λ r. ⌜ r ≡ first (judgeChecks (now (table .entry)) samples start driven scratch desk) ⌝ }
 {
     match check_row(table, samples, start, driven, scratch) {
         Outcome::Refused(why) => Outcome::Refused(why),
-        Outcome::Accepted => check_tally(tally),
+        Outcome::Accepted => check_desk(desk),
     }
 }

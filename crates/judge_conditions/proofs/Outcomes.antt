@@ -5,8 +5,9 @@ use mathlib.Core.Bool.{false}
 use mathlib.Core.List.{List, _++_}
 use native.Mathlib.Omega.{arith}
 use lib.ListN.{length}
-use borrow.Author.Tests.{ltb-false, leb-false, eqb-false, ne-eqb, le-ltb, lt-leb}
+use borrow.Author.Tests.{ltb-false, leb-false, eqb-false, ne-eqb, le-ltb, le-leb, lt-leb}
 use Rattle.refusals.specs.declared.Refusal.{Refusal}
+use Rattle.refusals.specs.declared.Refusal.the-variants.{DeskOutside}
 use Rattle.refusals.specs.declared.Outcome.the-variants.{Accepted, Refused}
 use Rattle.refusals.specs.Refusals.{Check, first}
 use Rattle.table.specs.Checks.{checked}
@@ -14,8 +15,9 @@ use Rattle.table.specs.Header.{headed, body, headedChecks, headedChecked}
 use Rattle.table.specs.StepChecks.{drivenChecks, letterChecks}
 use Rattle.table.proofs.Header.{accepted-headed, headed-accepted}
 use Rattle.row_words.specs.Row.{rowWords}
-use Rattle.judge_conditions.specs.Checks.{recordingChecks, scratchChecks, tallyChecks, rowChecks, judgeChecks}
-use Rattle.tally.specs.declared.Tally.{Tally}
+use Rattle.judge_conditions.specs.Checks.{recordingChecks, scratchChecks, deskChecks, rowChecks, judgeChecks}
+use Rattle.tally.specs.declared.Desk.{Desk}
+use Rattle.tally.specs.Tallies.{isFull}
 use Rattle.refusals.proofs.First.{Passed, first-passed, passed-first, first-append-accepted, first-append-refused, first-append-both}
 
 -- a table with its header, a recording and a scratch that the row call accepts
@@ -84,18 +86,27 @@ module _ (t : List ℕ) (samples start driven scratch : ℕ) where
         ),
       )
 
-  -- the judge's checks are the row call's, and then the tally's
-  pub judge-refused : (tally : Tally) (why : Refusal) → first (rowChecks t samples start driven scratch) ≡ Refused why
-      → first (judgeChecks t samples start driven scratch tally) ≡ Refused why
+  -- the judge's checks are the row call's, and then the named desk's
+  pub judge-refused : (desk : Desk) (why : Refusal) → first (rowChecks t samples start driven scratch) ≡ Refused why
+      → first (judgeChecks t samples start driven scratch desk) ≡ Refused why
   unfolding judgeChecks
-  judge-refused tally why e = first-append-refused (rowChecks t samples start driven scratch) (tallyChecks tally) why e
+  judge-refused desk why e = first-append-refused (rowChecks t samples start driven scratch) (deskChecks desk) why e
 
-  pub judge-accepted : (tally : Tally) → first (rowChecks t samples start driven scratch) ≡ Accepted
-      → first (judgeChecks t samples start driven scratch tally) ≡ first (tallyChecks tally)
+  pub judge-accepted : (desk : Desk) → first (rowChecks t samples start driven scratch) ≡ Accepted
+      → first (judgeChecks t samples start driven scratch desk) ≡ first (deskChecks desk)
   unfolding judgeChecks
-  judge-accepted tally e = first-append-accepted (rowChecks t samples start driven scratch) (tallyChecks tally) e
+  judge-accepted desk e = first-append-accepted (rowChecks t samples start driven scratch) (deskChecks desk) e
 
-  pub judge-both : (tally : Tally) → first (judgeChecks t samples start driven scratch tally) ≡ Accepted
-      → (first (rowChecks t samples start driven scratch) ≡ Accepted) × (first (tallyChecks tally) ≡ Accepted)
+  pub judge-both : (desk : Desk) → first (judgeChecks t samples start driven scratch desk) ≡ Accepted
+      → (first (rowChecks t samples start driven scratch) ≡ Accepted) × (first (deskChecks desk) ≡ Accepted)
   unfolding judgeChecks
-  judge-both tally e = first-append-both (rowChecks t samples start driven scratch) (tallyChecks tally) .0 e
+  judge-both desk e = first-append-both (rowChecks t samples start driven scratch) (deskChecks desk) .0 e
+
+-- a desk without a tally is refused by 26, whatever tally goes with it, and one that is accepted has a tally that is not full
+pub desk-outside : (desk : Desk) → desk .desks ≤ desk .number → first (deskChecks desk) ≡ Refused DeskOutside
+unfolding deskChecks
+desk-outside desk l = simp (le-leb (desk .desks) (desk .number) l)
+
+pub desk-accepted : (desk : Desk) → first (deskChecks desk) ≡ Accepted → (desk .number < desk .desks) × (isFull (desk .tally) ≡ false)
+unfolding deskChecks
+desk-accepted desk e = let p = first-passed (deskChecks desk) e in (leb-false (desk .desks) (desk .number) (p .0), p .1 .0)

@@ -19,6 +19,7 @@ use Rattle.table.specs.Table.{formulas, rule}
 use Rattle.table.specs.Header.{body}
 use Rattle.table.proofs.Formulas.{length-formulas}
 use Rattle.tally.specs.declared.Tally.{Tally}
+use Rattle.tally.specs.declared.Desk.{Desk}
 use Rattle.judging.specs.declared.answer.Judged.{Judged}
 use Rattle.tally.specs.Tallies.{counted}
 use Rattle.judge_laws.specs.Alike.{Alike}
@@ -69,9 +70,9 @@ module _ (t samples samples′ : List ℕ) (start driven : ℕ) (scratch : List 
   unfolding rowOutcome
   row-outcome = rw (alike .long)
 
-  judge-outcome : (tally : Tally) → judgeOutcome t samples start driven scratch tally ≡ judgeOutcome t samples′ start driven scratch tally
+  judge-outcome : (desk : Desk) → judgeOutcome t samples start driven scratch desk ≡ judgeOutcome t samples′ start driven scratch desk
   unfolding judgeOutcome
-  judge-outcome tally = rw (alike .long)
+  judge-outcome desk = rw (alike .long)
 
   module _ (accepted : rowOutcome t samples start driven scratch ≡ Accepted) where
     accepted′ : rowOutcome t samples′ start driven scratch ≡ Accepted
@@ -146,15 +147,15 @@ module _ (t samples samples′ : List ℕ) (start driven : ℕ) (scratch : List 
   )
 
   -- the judge: its outcome, the whole reply and the scratch
-  pub judged-alike : (tally : Tally)
-      → (judgeOutcome t samples start driven scratch tally ≡ judgeOutcome t samples′ start driven scratch tally)
-      × (reply t samples start driven scratch tally ≡ reply t samples′ start driven scratch tally)
-      × (scratchAfter (judgeOutcome t samples start driven scratch tally) t samples start driven scratch
-      ≡ scratchAfter (judgeOutcome t samples′ start driven scratch tally) t samples′ start driven scratch)
+  pub judged-alike : (desk : Desk)
+      → (judgeOutcome t samples start driven scratch desk ≡ judgeOutcome t samples′ start driven scratch desk)
+      × (reply t samples start driven scratch desk ≡ reply t samples′ start driven scratch desk)
+      × (scratchAfter (judgeOutcome t samples start driven scratch desk) t samples start driven scratch
+      ≡ scratchAfter (judgeOutcome t samples′ start driven scratch desk) t samples′ start driven scratch)
   unfolding reply r r′
-  judged-alike tally =
-      let accepts = judge-rows t samples start driven scratch tally in (
-        judge-outcome tally,
-        reply-by (judgeOutcome t samples start driven scratch tally) tally accepts ∙ ap (λ (o : Outcome). replyBy o r′ (rule (body t)) tally) (judge-outcome tally),
-        scratch-by (judgeOutcome t samples start driven scratch tally) accepts ∙ ap (λ (o : Outcome). scratchAfter o t samples′ start driven scratch) (judge-outcome tally),
+  judged-alike desk =
+      let accepts = judge-rows t samples start driven scratch desk in (
+        judge-outcome desk,
+        reply-by (judgeOutcome t samples start driven scratch desk) (desk .tally) accepts ∙ ap (λ (o : Outcome). replyBy o r′ (rule (body t)) (desk .tally)) (judge-outcome desk),
+        scratch-by (judgeOutcome t samples start driven scratch desk) accepts ∙ ap (λ (o : Outcome). scratchAfter o t samples′ start driven scratch) (judge-outcome desk),
       )

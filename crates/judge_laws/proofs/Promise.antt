@@ -31,7 +31,7 @@ use Rattle.table.specs.Header.{body}
 use Rattle.table.proofs.Formulas.{length-formulas}
 use Rattle.table.proofs.Accepted.{accepted-well-formed}
 use Rattle.table.proofs.Letters.{formulas-driven}
-use Rattle.tally.specs.declared.Tally.{Tally}
+use Rattle.tally.specs.declared.Desk.{Desk}
 use Rattle.operand_rows.specs.Operands.{rowNumber}
 use Rattle.row_filling.specs.Filling.{lassoOf, rowOf, rowsThen}
 use Rattle.judging.specs.Judging.{rowOutcome, judgeOutcome, replyBy, reply, scratchAfter, lastRow}
@@ -137,13 +137,13 @@ unfolding Promise
 row-promise t samples start driven scratch e = promised t samples start driven scratch e _ (accepted-scratch t samples start driven scratch e)
 
 -- the judge
-pub judge-promise : (t samples : List ℕ) (start driven : ℕ) (scratch : List ℕ) (tally : Tally) → judgeOutcome t samples start driven scratch tally ≡ Accepted
+pub judge-promise : (t samples : List ℕ) (start driven : ℕ) (scratch : List ℕ) (desk : Desk) → judgeOutcome t samples start driven scratch desk ≡ Accepted
     → (j : ℕ) → j < length (body t) → (i : ℕ)
-    → T (holdsIn (rowNumber (rowWords (length samples)) j (scratchAfter (judgeOutcome t samples start driven scratch tally) t samples start driven scratch)) (place (length samples) start i))
+    → T (holdsIn (rowNumber (rowWords (length samples)) j (scratchAfter (judgeOutcome t samples start driven scratch desk) t samples start driven scratch)) (place (length samples) start i))
     ↔ Holds (word (lassoOf samples start driven)) (getD (formulas (body t)) j (const false)) i
 unfolding Promise
-judge-promise t samples start driven scratch tally e =
-    promised t samples start driven scratch (judge-rows t samples start driven scratch tally e) _ (accepted-scratch t samples start driven scratch e)
+judge-promise t samples start driven scratch desk e =
+    promised t samples start driven scratch (judge-rows t samples start driven scratch desk e) _ (accepted-scratch t samples start driven scratch e)
 
 -- ---- the answers
 
@@ -183,25 +183,25 @@ module _ (f : Sequence) (P : Predicate) (h : (i : ℕ) → T (f i) ↔ P i) wher
       go false e r = (λ j a b. absurd (omega arith), inr (omega arith, false-fails i e))
 
 -- the number and place of every judgement are its checks'
-pub said-outcome : (t samples : List ℕ) (start driven : ℕ) (scratch : List ℕ) (tally : Tally)
-    → (said (reply t samples start driven scratch tally .answer) .number ≡ outcomeNumber (judgeOutcome t samples start driven scratch tally))
-    × (said (reply t samples start driven scratch tally .answer) .place ≡ outcomePlace (judgeOutcome t samples start driven scratch tally))
+pub said-outcome : (t samples : List ℕ) (start driven : ℕ) (scratch : List ℕ) (desk : Desk)
+    → (said (reply t samples start driven scratch desk .answer) .number ≡ outcomeNumber (judgeOutcome t samples start driven scratch desk))
+    × (said (reply t samples start driven scratch desk .answer) .place ≡ outcomePlace (judgeOutcome t samples start driven scratch desk))
 unfolding reply replyBy
-said-outcome t samples start driven scratch tally = by (judgeOutcome t samples start driven scratch tally)
+said-outcome t samples start driven scratch desk = by (judgeOutcome t samples start driven scratch desk)
   where
-    by : (o : Outcome) → (said (replyBy o (lassoOf samples start driven) (rule (body t)) tally .answer) .number ≡ outcomeNumber o)
-        × (said (replyBy o (lassoOf samples start driven) (rule (body t)) tally .answer) .place ≡ outcomePlace o)
+    by : (o : Outcome) → (said (replyBy o (lassoOf samples start driven) (rule (body t)) (desk .tally) .answer) .number ≡ outcomeNumber o)
+        × (said (replyBy o (lassoOf samples start driven) (rule (body t)) (desk .tally) .answer) .place ≡ outcomePlace o)
     by Accepted = (refl, refl)
     by (Refused why) = (refl, refl)
 
 -- an accepted judgement, by the meaning of the rule
-pub accepted-judgement : (t samples : List ℕ) (start driven : ℕ) (scratch : List ℕ) (tally : Tally) → judgeOutcome t samples start driven scratch tally ≡ Accepted
-    → Judges (Holds (word (lassoOf samples start driven)) (rule (body t))) (length samples) (said (reply t samples start driven scratch tally .answer))
+pub accepted-judgement : (t samples : List ℕ) (start driven : ℕ) (scratch : List ℕ) (desk : Desk) → judgeOutcome t samples start driven scratch desk ≡ Accepted
+    → Judges (Holds (word (lassoOf samples start driven)) (rule (body t))) (length samples) (said (reply t samples start driven scratch desk .answer))
     (lastRow (rowOutcome t samples start driven scratch) t samples start driven)
 unfolding reply lastRow replyBy rowOf
-accepted-judgement t samples start driven scratch tally e =
+accepted-judgement t samples start driven scratch desk e =
     let r : Lasso = lassoOf samples start driven in
-    let rows = judge-rows t samples start driven scratch tally e in
+    let rows = judge-rows t samples start driven scratch desk e in
     let size : length (r .samples) ≡ length samples = ap (λ (x : Lasso). length (x .samples)) (inside t samples start driven scratch rows .2) in
     let first = first-fails (truth r (rule (body t))) (Holds (word r) (rule (body t))) (truth-holds r (rule (body t))) 0 (length (r .samples)) in
     rw (e, rows, ← size) (record {

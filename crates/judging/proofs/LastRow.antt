@@ -14,36 +14,34 @@ use Rattle.row_words.specs.Writing.{RowFor}
 use Rattle.refusals.specs.declared.Outcome.{Outcome}
 use Rattle.refusals.specs.declared.Outcome.the-variants.{Accepted, Refused}
 use Rattle.refusals.specs.declared.Refusal.{Refusal}
-use Rattle.refusals.specs.Refusals.{first}
 use Rattle.table.specs.Table.{formulaOf, formulas, rule}
 use Rattle.table.specs.Header.{body}
 use Rattle.row_words.specs.Row.{rowWords}
-use Rattle.judge_conditions.specs.Checks.{tallyChecks}
-use Rattle.refusals.proofs.First.{first-passed}
 use Rattle.table.proofs.Accepted.{accepted-well-formed}
 use Rattle.table.proofs.Formulas.{length-formulas}
 use Rattle.tally.specs.declared.Tally.{Tally}
+use Rattle.tally.specs.declared.Desk.{Desk}
 use Rattle.judging.specs.declared.answer.Judgement.{Judgement}
 use Rattle.judging.specs.declared.answer.Judgement.the-variants.{Judged as JudgedAs, Refused as NotJudged}
 use Rattle.judging.specs.declared.answer.Judged.{Judged}
 use Rattle.tally.specs.Tallies.{isFull, counted, tallyAfter}
 use Rattle.row_filling.specs.Filling.{Fillable, lassoOf, rowOf, rowsThen}
 use Rattle.judging.specs.Judging.{judgement, replyBy, rowOutcome, judgeOutcome, reply, scratchAfter, lastRow, partAt}
-use Rattle.judge_conditions.proofs.Outcomes.{judge-both}
+use Rattle.judge_conditions.proofs.Outcomes.{judge-both, desk-accepted}
 use Rattle.row_filling.proofs.Scratch.{width, row-part}
 use Rattle.row_filling.proofs.WordRow.{Inside, lasso-inside, part-small, part-end, part-for}
 
 -- what the judge accepts the row call accepts
-pub judge-rows : (t samples : List ℕ) (start driven : ℕ) (s : List ℕ) (tally : Tally)
-    → judgeOutcome t samples start driven s tally ≡ Accepted → rowOutcome t samples start driven s ≡ Accepted
+pub judge-rows : (t samples : List ℕ) (start driven : ℕ) (s : List ℕ) (desk : Desk)
+    → judgeOutcome t samples start driven s desk ≡ Accepted → rowOutcome t samples start driven s ≡ Accepted
 unfolding judgeOutcome rowOutcome
-judge-rows t samples start driven s tally e = judge-both t (length samples) start driven (length s) tally e .0
+judge-rows t samples start driven s desk e = judge-both t (length samples) start driven (length s) desk e .0
 
--- and its tally is not full
-pub judge-tally : (t samples : List ℕ) (start driven : ℕ) (s : List ℕ) (tally : Tally)
-    → judgeOutcome t samples start driven s tally ≡ Accepted → first (tallyChecks tally) ≡ Accepted
+-- and the desk that it names has a tally, which is not full
+pub judge-desk : (t samples : List ℕ) (start driven : ℕ) (s : List ℕ) (desk : Desk)
+    → judgeOutcome t samples start driven s desk ≡ Accepted → (desk .number < desk .desks) × (isFull (desk .tally) ≡ false)
 unfolding judgeOutcome
-judge-tally t samples start driven s tally e = judge-both t (length samples) start driven (length s) tally e .1
+judge-desk t samples start driven s desk e = desk-accepted desk (judge-both t (length samples) start driven (length s) desk e .1)
 
 -- as many words stand before the last one as the table has, less its header and that one
 pub words-before : (t : List ℕ) → length t - 2 ≡ length (body t) - 1
@@ -88,9 +86,8 @@ module _ (t samples : List ℕ) (start : ℕ) (s : List ℕ) (n words : ℕ)
       ∙ ap (rowOf r) (sym last-formula)
 
 -- a tally that is not full is counted on
-tally-counted : (c : Tally) (holds : Bool) → first (tallyChecks c) ≡ Accepted → tallyAfter c holds ≡ counted c holds
-unfolding tallyChecks
-tally-counted c holds e = ap (λ (b : Bool). cond b c (counted c holds)) (first-passed (tallyChecks c) e .0)
+tally-counted : (c : Tally) (holds : Bool) → isFull c ≡ false → tallyAfter c holds ≡ counted c holds
+tally-counted c holds e = ap (λ (b : Bool). cond b c (counted c holds)) e
 
 -- the three answers, from what is read off a row
 pub judged-is : (f : Sequence) (L : ℕ) (holds : Bool) (moments failing : ℕ) → holds ≡ f 0 → moments ≡ countTrue f L → failing ≡ firstFalse f 0 L
@@ -99,7 +96,7 @@ judged-is f L holds moments failing a b c = cc
 
 -- what is read off the rule's row is the reply to an accepted judgement
 pub accepted-answer : (t samples : List ℕ) (start driven : ℕ) (part : List ℕ) (tally : Tally) (j : Judged)
-    → start < length samples → driven ≤ 32 → first (tallyChecks tally) ≡ Accepted
+    → start < length samples → driven ≤ 32 → isFull tally ≡ false
     → part ≡ rowOf (lassoOf samples start driven) (rule t)
     → ((f : Sequence) → part ≡ row (length samples) f → (j .answer ≡ judgement f (length samples)) × (j .tally ≡ tallyAfter tally (f 0)))
     → j ≡ replyBy Accepted (lassoOf samples start driven) (rule t) tally
@@ -116,15 +113,15 @@ accepted-answer t samples start driven part tally j inside few e p read =
     as-judged d h = ap₂ (λ (a : Judgement) (c : Tally). record { answer = a; tally = c }) d h
 
 -- the reply, by what the checks say
-pub accepted-reply : (t samples : List ℕ) (start driven : ℕ) (s : List ℕ) (tally : Tally) → judgeOutcome t samples start driven s tally ≡ Accepted
-    → replyBy Accepted (lassoOf samples start driven) (rule (body t)) tally ≡ reply t samples start driven s tally
+pub accepted-reply : (t samples : List ℕ) (start driven : ℕ) (s : List ℕ) (desk : Desk) → judgeOutcome t samples start driven s desk ≡ Accepted
+    → replyBy Accepted (lassoOf samples start driven) (rule (body t)) (desk .tally) ≡ reply t samples start driven s desk
 unfolding reply
-accepted-reply t samples start driven s tally e = ap (λ (o : Outcome). replyBy o (lassoOf samples start driven) (rule (body t)) tally) (sym e)
+accepted-reply t samples start driven s desk e = ap (λ (o : Outcome). replyBy o (lassoOf samples start driven) (rule (body t)) (desk .tally)) (sym e)
 
-pub refused-reply : (t samples : List ℕ) (start driven : ℕ) (s : List ℕ) (tally : Tally) (why : Refusal)
-    → judgeOutcome t samples start driven s tally ≡ Refused why → record { answer = NotJudged why; tally = tally } ≡ reply t samples start driven s tally
+pub refused-reply : (t samples : List ℕ) (start driven : ℕ) (s : List ℕ) (desk : Desk) (why : Refusal)
+    → judgeOutcome t samples start driven s desk ≡ Refused why → record { answer = NotJudged why; tally = desk .tally } ≡ reply t samples start driven s desk
 unfolding reply replyBy
-refused-reply t samples start driven s tally why e = ap (λ (o : Outcome). replyBy o (lassoOf samples start driven) (rule (body t)) tally) (sym e)
+refused-reply t samples start driven s desk why e = ap (λ (o : Outcome). replyBy o (lassoOf samples start driven) (rule (body t)) (desk .tally)) (sym e)
 
 -- ---- the scratch and the part, by what the checks say
 

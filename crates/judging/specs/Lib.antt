@@ -1,2 +1,2 @@
--- What a judgement answers, what it leaves in the scratch, and the tally after it.
+-- What a judgement answers, what it leaves in the scratch, and the tallies after it.
 pub mod Judging

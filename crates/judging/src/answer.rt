@@ -12,7 +12,7 @@ pub enum Judgement {
     Refused(Refusal),
 }
 
-// The answer, with the tally after it.
+// The answer, with the named desk's tally after it.
 pub struct Judged {
     pub answer: Judgement,
     pub tally: Tally,

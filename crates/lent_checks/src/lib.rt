@@ -1,16 +1,16 @@
-// The checks of what a judgement is lent beside its table: the recording, the scratch and the tally, each over the numbers that it looks at.
+// The checks of what a judgement is lent beside its table: the recording, the scratch and the named desk, each over the numbers that it looks at.
 ghost use mathlib.Core.Path.{_≡_};
 ghost use Prim.Native.Nat.{_≤_};
 ghost use mathlib.Core.List.{_++_};
 ghost use Rattle.refusals.specs.Refusals.{first};
 ghost use lib.ListN.{length};
 ghost use Rattle.table.specs.StepChecks.{letterChecks};
-ghost use Rattle.judge_conditions.specs.Checks.{recordingChecks, scratchChecks, tallyChecks};
+ghost use Rattle.judge_conditions.specs.Checks.{recordingChecks, scratchChecks, deskChecks};
 use letter_checks::check_letters;
 use refusals::Outcome;
 use refusals::Refusal;
 use row_words::word::row_words;
-use tally::Tally;
+use tally::Desk;
 
 // 13 to 15, then 22.
 pub fn check_recording(samples: usize, start: usize, driven: usize) -> Outcome
@@ -71,10 +71,14 @@ pub fn check_memory(
     }
 }
 
-// 17.
-pub fn check_tally(tally: Tally) -> Outcome
-    ensures { λ r. ⌜ r ≡ first (tallyChecks tally) ⌝ }
+// 26, then 17.
+pub fn check_desk(desk: Desk) -> Outcome
+    ensures { λ r. ⌜ r ≡ first (deskChecks desk) ⌝ }
 {
+    if desk.number >= desk.desks {
+        return Outcome::Refused(Refusal::DeskOutside);
+    }
+    let tally = desk.tally;
     if tally.full() {
         return Outcome::Refused(Refusal::TallyFull);
     }

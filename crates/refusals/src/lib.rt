@@ -28,6 +28,7 @@ pub enum Refusal {
     CountDiffers,
     HeaderWrong,
     LimitsOutside,
+    DeskOutside,
 }
 
 // A step that has nothing to say when it is accepted.
@@ -68,6 +69,7 @@ pub fn report_of(r: Refusal) -> Report
         Refusal::CountDiffers => Report(23, 0),
         Refusal::HeaderWrong => Report(24, 0),
         Refusal::LimitsOutside => Report(25, 0),
+        Refusal::DeskOutside => Report(26, 0),
     }
 }
 

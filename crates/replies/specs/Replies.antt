@@ -6,7 +6,7 @@ use Rattle.refusals.specs.declared.Outcome.{Outcome}
 use Rattle.refusals.specs.declared.Outcome.the-variants as outcome
 use Rattle.refusals.specs.Refusals.{outcomeNumber, outcomePlace}
 use Rattle.row_words.specs.Row.{rowWords}
-use Rattle.judging.specs.declared.answer.Judged.{Judged}
+use Rattle.judging.specs.declared.answer.Judgement.{Judgement}
 use Rattle.judge_laws.specs.Answers.{said}
 use Rattle.table.specs.declared.answer.Answer.{Answer}
 use Rattle.table.specs.Frame.{answerReport, answerWords}
@@ -17,15 +17,13 @@ pub record FormReply (a : Answer) (number words place : ℕ) : Type 0 where
   pub is-words : words ≡ answerWords a
   pub is-place : place ≡ answerReport a .1
 
--- a judgement's reply in lent numbers, with the tally after it
-pub record JudgeReply (j : Judged) (number judged held : ℕ) (holds : Bool) (moments failing place : ℕ) : Type 0 where
-  pub is-number : number ≡ said (j .answer) .number
-  pub is-judged : judged ≡ j .tally .judged
-  pub is-held : held ≡ j .tally .held
-  pub is-holds : holds ≡ said (j .answer) .holds
-  pub is-moments : moments ≡ said (j .answer) .moments
-  pub is-failing : failing ≡ said (j .answer) .failing
-  pub is-place : place ≡ said (j .answer) .place
+-- a judgement's answer in lent numbers
+pub record JudgeReply (a : Judgement) (number : ℕ) (holds : Bool) (moments failing place : ℕ) : Type 0 where
+  pub is-number : number ≡ said a .number
+  pub is-holds : holds ≡ said a .holds
+  pub is-moments : moments ≡ said a .moments
+  pub is-failing : failing ≡ said a .failing
+  pub is-place : place ≡ said a .place
 
 -- where the rule's own row starts among the rows of a scratch, one for each of so many words of a table, which leave out its header, and how long
 -- it is; both 0 where there is none

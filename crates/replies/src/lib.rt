@@ -1,8 +1,7 @@
 // The answers of the steps as lent numbers: document 01's refusal number, 0 when the call is accepted, its place, and what an accepted call says.
 ghost use mathlib.Core.Path.{_≡_};
 ghost use Rattle.refusals.specs.Refusals.{outcomeNumber, outcomePlace};
-ghost use Rattle.judge_laws.specs.Answers.{said};
-ghost use Rattle.replies.specs.Replies.{FormReply};
+ghost use Rattle.replies.specs.Replies.{FormReply, JudgeReply};
 use judging::answer::Judgement;
 use refusals::Outcome;
 use table::answer::Answer;
@@ -35,6 +34,7 @@ pub fn form_reply(a: Answer, words: &mut usize, place: &mut usize) -> u32
     }
 }
 
+// What a judgement says, or the refusal, in lent numbers.
 pub fn judge_reply(
     j: Judgement,
     holds: &mut bool,
@@ -42,11 +42,7 @@ pub fn judge_reply(
     failing: &mut usize,
     place: &mut usize,
 ) -> u32
-    ensures { λ r. ⌜ r ≡ said j .number ⌝ }
-    ensures { λ r. ⌜ now (holds .exit) ≡ said j .holds ⌝ }
-    ensures { λ r. ⌜ now (moments .exit) ≡ said j .moments ⌝ }
-    ensures { λ r. ⌜ now (failing .exit) ≡ said j .failing ⌝ }
-    ensures { λ r. ⌜ now (place .exit) ≡ said j .place ⌝ }
+    ensures { λ r. ⌜ JudgeReply j r (now (holds .exit)) (now (moments .exit)) (now (failing .exit)) (now (place .exit)) ⌝ }
 {
     match j {
         Judgement::Judged {

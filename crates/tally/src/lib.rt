@@ -2,9 +2,17 @@
 ghost use mathlib.Core.Path.{_≡_};
 ghost use Rattle.tally.specs.Tallies.{noneJudged, isFull, tallyAfter};
 
+#[repr(C)]
 pub struct Tally {
     pub judged: u32,
     pub held: u32,
+}
+
+// The desk that a judgement names: how many tallies there are, its number among them, counted from 0, and its tally; any tally where the number is that of none.
+pub struct Desk {
+    pub desks: usize,
+    pub number: usize,
+    pub tally: Tally,
 }
 
 impl Tally {

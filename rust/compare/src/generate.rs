@@ -8,7 +8,7 @@ use reference::checks::until_like;
 use reference::edges::headed;
 use reference::header::words;
 use reference::limits::Limits;
-use reference::steps;
+use reference::steps::{self, Tally};
 use reference::word::{Word, MOST_WORDS};
 use std::collections::HashSet;
 
@@ -54,13 +54,13 @@ pub fn with_table(numbers: &mut Numbers, table: Vec<u32>) -> Input {
     with_text(numbers, limits, table, text)
 }
 
-/// An input with this table and this text, under these limits: a recording, a tally and rooms for them.
+/// An input with this table and this text, under these limits: a recording, tallies and rooms for them.
 pub fn with_text(numbers: &mut Numbers, limits: Limits, table: Vec<u32>, text: Vec<u8>) -> Input {
     let Lengths { plain, normal, dialect, form } = lengths(&table, limits);
     let count = words(&table).len();
     let samples = samples(numbers, count);
     let rows = count * samples.len().div_ceil(64);
-    let (judged, held) = tally(numbers);
+    let tallies: Vec<Tally> = (0..numbers.one_of(&[0, 1, 1, 2, 3, 8])).map(|_| tally(numbers)).collect();
     Input {
         text_table: room(numbers, steps::text_words(&text, limits).map_or(20, |words| 1 + words.len())),
         text,
@@ -78,8 +78,8 @@ pub fn with_text(numbers: &mut Numbers, limits: Limits, table: Vec<u32>, text: V
         undriven: numbers.next() as u32,
         samples,
         scratch: room(numbers, rows),
-        judged,
-        held,
+        desk: desk(numbers, tallies.len()),
+        tallies,
         table,
     }
 }
@@ -358,8 +358,8 @@ fn driven(numbers: &mut Numbers, words: &[u32]) -> usize {
     }
 }
 
-fn tally(numbers: &mut Numbers) -> (u32, u32) {
-    match numbers.below(12) {
+fn tally(numbers: &mut Numbers) -> Tally {
+    let (judged, held) = match numbers.below(12) {
         0 => (u32::MAX, numbers.next() as u32),
         1 => (u32::MAX - 1, numbers.next() as u32),
         2 => (numbers.next() as u32, numbers.next() as u32),
@@ -369,5 +369,16 @@ fn tally(numbers: &mut Numbers) -> (u32, u32) {
             let judged = numbers.next() as u32 >> 4;
             (judged, judged / 2)
         }
+    };
+    Tally { judged, held }
+}
+
+/// A desk, most often one that has a tally.
+fn desk(numbers: &mut Numbers, desks: usize) -> usize {
+    match numbers.below(16) {
+        0 => desks,
+        1 => numbers.between(desks, desks + 3),
+        2 if numbers.once_in(2) => numbers.next() as usize,
+        _ => numbers.below(desks.max(1)),
     }
 }

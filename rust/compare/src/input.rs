@@ -1,7 +1,8 @@
-//! One input of every step: a text, a table, limits, a recording, a tally, and the rooms of the slices that are lent.
+//! One input of every step: a text, a table, limits, a recording, tallies, and the rooms of the slices that are lent.
 use reference::header::words;
 use reference::limits::Limits;
 use reference::recording::Recording;
+use reference::steps::Tally;
 use std::fmt;
 
 #[derive(Clone, PartialEq, Eq, Debug)]
@@ -31,8 +32,9 @@ pub struct Input {
     /// The bits of the samples above the driven ones, in a second call that must answer the same.
     pub undriven: u32,
     pub scratch: usize,
-    pub judged: u32,
-    pub held: u32,
+    /// One for each desk, and the desk that the judgement names.
+    pub tallies: Vec<Tally>,
+    pub desk: usize,
 }
 
 impl Input {
@@ -57,8 +59,8 @@ impl Input {
             + self.driven.min(1 << 40) as u64
             + self.limits.written.min(1 << 40) as u64
             + self.limits.until_like.min(1 << 40) as u64
-            + self.judged as u64
-            + self.held as u64
+            + self.desk.min(1 << 40) as u64
+            + self.tallies.iter().map(|tally| 1 + tally.judged as u64 + tally.held as u64).sum::<u64>()
             + self.limit.min(1 << 40) as u64
             + self.plain_only as u64;
         let bits = self.samples.iter().chain([&self.undriven]).chain(self.table.first());
@@ -82,6 +84,7 @@ impl fmt::Display for Input {
         let (samples, start, driven) = (self.samples.len(), self.start, self.driven);
         writeln!(f, "recording of {samples} samples, loop start {start}, {driven} letters driven:{}", hex(&self.samples))?;
         writeln!(f, "bits above the driven ones in a second call: {:08X}", self.undriven)?;
-        write!(f, "tally: judged {}, held {}", self.judged, self.held)
+        let tallies: String = self.tallies.iter().map(|tally| format!(" {} of {},", tally.held, tally.judged)).collect();
+        write!(f, "tallies of {} desks, held of judged:{tallies} desk {} named", self.tallies.len(), self.desk)
     }
 }

@@ -4,15 +4,13 @@ use reference::limits::Limits;
 use reference::recording::Recording;
 use reference::steps;
 use reference::word::Word;
-use showrule::ffi;
+use showrule::{ffi, Tally};
 use std::cell::RefCell;
 use std::collections::HashMap;
 
 /// A judgement's lent numbers.
 #[derive(Clone, Copy)]
 pub struct Lent {
-    pub judged: u32,
-    pub held: u32,
     pub holds: bool,
     pub moments: usize,
     pub failing: usize,
@@ -34,7 +32,17 @@ pub trait Library {
         length: &mut usize,
         place: &mut usize,
     ) -> u32;
-    fn judge(&self, table: &[u32], recording: Recording, scratch: &mut [u64], lent: &mut Lent, place: &mut usize) -> u32;
+    #[allow(clippy::too_many_arguments)]
+    fn judge(
+        &self,
+        table: &[u32],
+        recording: Recording,
+        scratch: &mut [u64],
+        tallies: &mut [Tally],
+        desk: usize,
+        lent: &mut Lent,
+        place: &mut usize,
+    ) -> u32;
     fn row(
         &self,
         table: &[u32],
@@ -90,7 +98,16 @@ impl Library for Product {
         unsafe { ffi::showrule_form(table.as_ptr(), table.len(), w, u, p, plain.len(), r, result.len(), length, place) }
     }
 
-    fn judge(&self, table: &[u32], recording: Recording, scratch: &mut [u64], lent: &mut Lent, place: &mut usize) -> u32 {
+    fn judge(
+        &self,
+        table: &[u32],
+        recording: Recording,
+        scratch: &mut [u64],
+        tallies: &mut [Tally],
+        desk: usize,
+        lent: &mut Lent,
+        place: &mut usize,
+    ) -> u32 {
         unsafe {
             ffi::showrule_judge(
                 table.as_ptr(),
@@ -101,8 +118,9 @@ impl Library for Product {
                 recording.driven,
                 scratch.as_mut_ptr(),
                 scratch.len(),
-                &mut lent.judged,
-                &mut lent.held,
+                tallies.as_mut_ptr(),
+                tallies.len(),
+                desk,
                 &mut lent.holds,
                 &mut lent.moments,
                 &mut lent.failing,
@@ -204,17 +222,23 @@ impl Library for Reference {
         length_told(made.and_then(|n| steps::write(self.normal_words(&plain[..n], limits), result)), length, place)
     }
 
-    fn judge(&self, table: &[u32], recording: Recording, scratch: &mut [u64], lent: &mut Lent, place: &mut usize) -> u32 {
-        let mut tally = steps::Tally { judged: lent.judged, held: lent.held };
-        let (number, judged) = told(steps::judge(table, recording, scratch, &mut tally), place);
+    fn judge(
+        &self,
+        table: &[u32],
+        recording: Recording,
+        scratch: &mut [u64],
+        tallies: &mut [Tally],
+        desk: usize,
+        lent: &mut Lent,
+        place: &mut usize,
+    ) -> u32 {
+        let mut counts: Vec<_> = tallies.iter().map(|t| steps::Tally { judged: t.judged, held: t.held }).collect();
+        let (number, judged) = told(steps::judge(table, recording, scratch, &mut counts, desk), place);
+        for (tally, count) in tallies.iter_mut().zip(counts) {
+            *tally = Tally { judged: count.judged, held: count.held };
+        }
         let judgement = judged.unwrap_or(steps::Judgement { holds: false, moments: 0, failing: 0 });
-        *lent = Lent {
-            judged: tally.judged,
-            held: tally.held,
-            holds: judgement.holds,
-            moments: judgement.moments,
-            failing: judgement.failing,
-        };
+        *lent = Lent { holds: judgement.holds, moments: judgement.moments, failing: judgement.failing };
         number
     }
 

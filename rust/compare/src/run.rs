@@ -11,6 +11,7 @@ use reference::recording::Recording;
 use reference::steps::check as checked;
 use reference::text::{show, shown_bytes};
 use reference::word::MOST_WORDS;
+use showrule::Tally;
 use std::collections::HashMap;
 use std::fmt;
 
@@ -129,11 +130,15 @@ fn form(library: &dyn Library, input: &Input) -> Seen {
 fn judge(library: &dyn Library, input: &Input, step: &'static str, recording: Recording) -> Seen {
     let mut scratch = Memory::new(input.scratch, |x| x);
     let mut place = BEFORE;
-    let mut lent = Lent { judged: input.judged, held: input.held, holds: true, moments: BEFORE, failing: BEFORE };
-    let number = library.judge(&input.table, recording, scratch.slice(), &mut lent, &mut place);
-    let lent =
-        vec![lent.judged.into(), lent.held.into(), lent.holds.into(), lent.moments as u64, lent.failing as u64, place as u64];
-    Seen { step, number, lent, memory: held(&scratch) }
+    let mut tallies = Memory::new(input.tallies.len(), |x| Tally { judged: x as u32, held: (x >> 32) as u32 });
+    for (lent, tally) in tallies.slice().iter_mut().zip(&input.tallies) {
+        *lent = Tally { judged: tally.judged, held: tally.held };
+    }
+    let mut lent = Lent { holds: true, moments: BEFORE, failing: BEFORE };
+    let number = library.judge(&input.table, recording, scratch.slice(), tallies.slice(), input.desk, &mut lent, &mut place);
+    let lent = vec![lent.holds.into(), lent.moments as u64, lent.failing as u64, place as u64];
+    let counts = tallies.all.iter().map(|tally| u64::from(tally.judged) << 32 | u64::from(tally.held));
+    Seen { step, number, lent, memory: held(&scratch).into_iter().chain(counts).collect() }
 }
 
 fn row(library: &dyn Library, input: &Input, step: &'static str, recording: Recording) -> Seen {

@@ -3,6 +3,7 @@ use crate::generate::{lengths, Lengths};
 use crate::input::Input;
 use reference::edges::headed;
 use reference::header::words;
+use reference::steps::Tally;
 use reference::word::Word;
 
 /// The smallest input that single steps of shrinking lead to.
@@ -107,8 +108,14 @@ fn changes(input: &Input) -> Vec<Change> {
         with(Box::new(move |i| *size(i) /= 2));
         with(Box::new(move |i| *size(i) = size(i).saturating_sub(1)));
     }
-    with(Box::new(|i| (i.judged, i.held) = (0, 0)));
-    with(Box::new(|i| i.held = 0));
+    with(Box::new(|i| i.tallies.truncate(i.tallies.len().saturating_sub(1))));
+    with(Box::new(|i| i.desk = 0));
+    with(Box::new(|i| i.desk = i.desk.saturating_sub(1)));
+    with(Box::new(|i| i.desk = i.desk.min(i.tallies.len())));
+    for k in 0..input.tallies.len() {
+        with(Box::new(move |i| i.tallies[k] = Tally { judged: 0, held: 0 }));
+        with(Box::new(move |i| i.tallies[k].held = 0));
+    }
     with(Box::new(|i| i.plain_only = false));
     with(Box::new(|i| i.limit = 64));
     for j in (0..b).take(300) {

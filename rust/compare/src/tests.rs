@@ -14,6 +14,7 @@ use reference::limits::Limits;
 use reference::listing::{list, needed};
 use reference::recording::Recording;
 use reference::steps::{unfolded, write};
+use showrule::Tally;
 use std::collections::BTreeSet;
 
 /// The reference with one fault.
@@ -29,6 +30,9 @@ enum Fault {
     PlaceOneLow,
     RowNotLast,
     HeldForgotten,
+    FirstDesk,
+    AnyFull,
+    FullBeforeDesk,
     GuardWritten,
     TextPlaceLate,
     WordsBeforeGrammar,
@@ -176,11 +180,31 @@ impl Library for Faulty {
         self.right.form(table, self.limits(limits), plain, result, words, place)
     }
 
-    fn judge(&self, table: &[u32], recording: Recording, scratch: &mut [u64], lent: &mut Lent, place: &mut usize) -> u32 {
-        let held = lent.held;
-        let number = self.right.judge(table, recording, scratch, lent, place);
-        if self.fault == Fault::HeldForgotten {
-            lent.held = held;
+    fn judge(
+        &self,
+        table: &[u32],
+        recording: Recording,
+        scratch: &mut [u64],
+        tallies: &mut [Tally],
+        desk: usize,
+        lent: &mut Lent,
+        place: &mut usize,
+    ) -> u32 {
+        let before = tallies.to_vec();
+        // the first desk's tally for each, and any full tally
+        let desk = if self.fault == Fault::FirstDesk && desk < tallies.len() { 0 } else { desk };
+        let full = |tally: &Tally| tally.judged == u32::MAX || tally.held > tally.judged;
+        let desk = if self.fault == Fault::AnyFull && desk < tallies.len() {
+            tallies.iter().position(full).unwrap_or(desk)
+        } else {
+            desk
+        };
+        let number = self.right.judge(table, recording, scratch, tallies, desk, lent, place);
+        if self.fault == Fault::HeldForgotten && number == 0 {
+            tallies[desk].held = before[desk].held;
+        }
+        if self.fault == Fault::FullBeforeDesk && number == 26 && before.iter().any(full) {
+            return 17;
         }
         if self.fault == Fault::HighestUndriven && number == 21 {
             let names = |&n: &usize| matches!(table[n] >> 28, 3 | 4) && (table[n] & 0x3FFF) as usize > recording.driven;
@@ -230,6 +254,9 @@ fn faults_are_found_and_made_small() {
         Fault::PlaceOneLow,
         Fault::RowNotLast,
         Fault::HeldForgotten,
+        Fault::FirstDesk,
+        Fault::AnyFull,
+        Fault::FullBeforeDesk,
         Fault::GuardWritten,
         Fault::TextPlaceLate,
         Fault::WordsBeforeGrammar,

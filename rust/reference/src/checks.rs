@@ -27,7 +27,8 @@ const UNTIL_LIKE: u32 = 5;
 const RECORDING: u32 = 6;
 const DRIVEN: u32 = 7;
 const SCRATCH: u32 = 8;
-const TALLY: u32 = 9;
+const DESK: u32 = 9;
+const TALLY: u32 = 10;
 
 impl Faults {
     fn note(&mut self, applies: bool, rank: Rank, number: u32) {
@@ -112,6 +113,12 @@ impl Faults {
     /// Check 16.
     pub fn scratch(&mut self, words: usize, samples: usize, scratch: usize) -> &mut Faults {
         self.note(scratch < words * samples.div_ceil(64), (SCRATCH, 0, 0), 16);
+        self
+    }
+
+    /// Check 26.
+    pub fn desk(&mut self, desks: usize, desk: usize) -> &mut Faults {
+        self.note(desk >= desks, (DESK, 0, 0), 26);
         self
     }
 

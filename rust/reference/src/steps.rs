@@ -15,7 +15,7 @@ use crate::typed;
 use crate::word::{Word, MOST_WORDS};
 use std::ops::Range;
 
-/// Judged and held.
+/// Judged and held, of one desk.
 #[derive(Clone, Copy, PartialEq, Eq, Debug)]
 pub struct Tally {
     pub judged: u32,
@@ -154,13 +154,25 @@ fn row_faults(table: &[u32], recording: Recording, scratch: &[u64]) -> Faults {
     faults
 }
 
-pub fn judge(table: &[u32], recording: Recording, scratch: &mut [u64], tally: &mut Tally) -> Result<Judgement, Refusal> {
-    row_faults(table, recording, scratch).tally(tally.judged, tally.held).first()?;
+/// For the desk of this number, counted from 0, among those that have a tally.
+pub fn judge(
+    table: &[u32],
+    recording: Recording,
+    scratch: &mut [u64],
+    tallies: &mut [Tally],
+    desk: usize,
+) -> Result<Judgement, Refusal> {
+    let mut faults = row_faults(table, recording, scratch);
+    faults.desk(tallies.len(), desk);
+    if let Some(tally) = tallies.get(desk) {
+        faults.tally(tally.judged, tally.held);
+    }
+    faults.first()?;
     let rows = rows(table, recording);
     scratch[..rows.len()].copy_from_slice(&rows);
     let row = rule_row(table, recording);
-    tally.judged += 1;
-    tally.held += row[0] as u32;
+    tallies[desk].judged += 1;
+    tallies[desk].held += row[0] as u32;
     Ok(Judgement {
         holds: row[0],
         moments: row.iter().filter(|&&holds| holds).count(),

@@ -1,5 +1,5 @@
 //! Document 02's sentences about texts (N1), driven letters (N3), the dialect without W and M (N4), the header (N5), the limits that a
-//! house sets (N6), the order of the parts (N7) and folding (N8), held to the reference itself.
+//! house sets (N6), the order of the parts (N7), folding (N8) and the tallies (N9), held to the reference itself.
 use reference::checks::Refusal;
 use reference::edges::{chain_of, chain_of_next, headed};
 use reference::limits::Limits;
@@ -177,7 +177,7 @@ fn headers_come_before_what_a_step_adds() {
     assert_eq!(told(classify(&wrong, &mut [])), (24, 0));
     let none = Recording { samples: &[], start: 0, driven: 33 };
     assert_eq!(told(row(&wrong, none, &mut [])), (24, 0));
-    assert_eq!(told(judge(&wrong, none, &mut [], &mut Tally { judged: 1, held: 2 })), (24, 0));
+    assert_eq!(told(judge(&wrong, none, &mut [], &mut [Tally { judged: 1, held: 2 }], 1)), (24, 0));
 }
 
 #[test]
@@ -327,4 +327,44 @@ fn room_for_the_folded_form_is_enough() {
     assert_eq!(told_with(last_is_true, 3), ((0, 0), vec![0x001F_C001, 0x2000_0000, 7]));
     assert_eq!(told_with(last_is_true, 1), ((12, 0), vec![0]));
     assert_eq!(told_with(last_is_true, 0), ((12, 0), vec![]));
+}
+
+#[test]
+fn a_judgement_counts_at_the_desk_that_it_names() {
+    let one = |sample: &'static [u32]| Recording { samples: sample, start: 0, driven: 1 };
+    let full = Tally { judged: u32::MAX, held: 0 };
+    let mut tallies = [Tally { judged: 0, held: 0 }, full, Tally { judged: 1, held: 2 }];
+    let before = tallies;
+    // 16, then 26, then 17 of the named desk
+    assert_eq!(told(judge(&ALWAYS, one(&[1]), &mut [0; 1], &mut tallies, 3)), (16, 0));
+    assert_eq!(told(judge(&ALWAYS, one(&[1]), &mut [0; 2], &mut tallies, 3)), (26, 0));
+    assert_eq!(told(judge(&ALWAYS, one(&[1]), &mut [0; 2], &mut [], 0)), (26, 0));
+    assert_eq!(told(judge(&ALWAYS, one(&[1]), &mut [0; 2], &mut tallies, 1)), (17, 0));
+    assert_eq!(told(judge(&ALWAYS, one(&[1]), &mut [0; 2], &mut tallies, 2)), (17, 0));
+    assert_eq!(tallies, before);
+    assert!(judge(&ALWAYS, one(&[1]), &mut [0; 2], &mut tallies, 0).unwrap().holds);
+    assert_eq!(tallies, [Tally { judged: 1, held: 1 }, full, before[2]]);
+}
+
+#[test]
+fn tallies_show_the_history_and_make_the_total() {
+    let mut tallies = [Tally { judged: 0, held: 0 }; 4];
+    let mut history = vec![];
+    // desks 0 to 4, the last without a tally; samples that hold and fail; now and then no letter driven
+    for n in 0..300u32 {
+        let (desk, samples, driven) = ((n * n + 3) as usize % 5, [n / 3 % 2], usize::from(n % 7 != 0));
+        let recording = Recording { samples: &samples, start: 0, driven };
+        history.push((desk, judge(&ALWAYS, recording, &mut [0; 2], &mut tallies, desk).map(|judgement| judgement.holds)));
+    }
+    let count = |test: &dyn Fn(usize) -> bool| {
+        let accepted = history.iter().filter(|entry| test(entry.0)).filter_map(|entry| entry.1.as_ref().ok());
+        let held = accepted.clone().filter(|&&holds| holds).count();
+        Tally { judged: accepted.count() as u32, held: held as u32 }
+    };
+    for (desk, tally) in tallies.iter().enumerate() {
+        assert_eq!(*tally, count(&|named| named == desk));
+    }
+    let total = |part: fn(&Tally) -> u32| tallies.iter().map(part).sum::<u32>();
+    assert_eq!(Tally { judged: total(|tally| tally.judged), held: total(|tally| tally.held) }, count(&|_| true));
+    assert!(history.iter().any(|entry| entry.1.is_err()) && total(|tally| tally.held) > 0);
 }

@@ -1,6 +1,8 @@
 //! The C functions of the static library, as `include/showrule.h` declares them. Nothing checks these lines against the library's
 //! source: the tests of this crate and the comparison (`rust/compare`) call every one.
 
+use crate::Tally;
+
 extern "C" {
     pub fn showrule_check(table: *const u32, length: usize, plain: bool, limit: usize, place: *mut usize) -> u32;
 
@@ -70,8 +72,9 @@ extern "C" {
         driven: usize,
         scratch: *mut u64,
         room: usize,
-        judged: *mut u32,
-        held: *mut u32,
+        tallies: *mut Tally,
+        desks: usize,
+        desk: usize,
         holds: *mut bool,
         moments: *mut usize,
         failing: *mut usize,

@@ -88,7 +88,8 @@ pub struct Recording<'a> {
     pub driven: usize,
 }
 
-/// Judgements so far, and how many of them held at moment 0.
+/// A desk's judgements so far, and how many of them held at moment 0.
+#[repr(C)]
 #[derive(Clone, Copy, PartialEq, Eq, Debug, Default)]
 pub struct Tally {
     /// Judgements.
@@ -287,26 +288,35 @@ pub fn scratch_words(words: usize, samples: usize) -> usize {
     words * samples.div_ceil(64)
 }
 
-/// Judges a rule over a recording. The rows of all words stand at the start of the scratch, and the tally counts the judgement. A refusal
-/// changes neither.
+/// Judges a rule over a recording. The rows of all words stand at the start of the scratch, and of the tallies, one for each desk, that of
+/// the named desk, counted from 0, counts the judgement; the others are not looked at. A refusal changes nothing.
 ///
 /// ```
 /// let always = [0x0000_0002, 0x3000_0001, 0xE000_0001];
 /// let mut scratch = [0; 2];
-/// let mut tally = showrule::Tally::default();
+/// let mut tallies = [showrule::Tally::default(); 3];
 /// let recording = showrule::Recording { samples: &[0, 1], start: 1, driven: 1 };
-/// let judgement = showrule::judge(&always, recording, &mut scratch, &mut tally)?;
+/// let judgement = showrule::judge(&always, recording, &mut scratch, &mut tallies, 2)?;
 /// assert_eq!((judgement.holds, judgement.moments, judgement.failing), (false, 1, 0));
-/// assert_eq!((tally.judged, tally.held), (1, 0));
+/// assert_eq!(tallies.map(|tally| (tally.judged, tally.held)), [(0, 0), (0, 0), (1, 0)]);
+///
+/// // a desk without a tally
+/// let refusal = showrule::judge(&always, recording, &mut scratch, &mut tallies, 3).unwrap_err();
+/// assert_eq!(refusal.to_string(), "desk 3 has no tally: those of desks 0 to 2 are lent");
 ///
 /// // a desk that drives no input
 /// let idle = showrule::Recording { driven: 0, ..recording };
-/// let refusal = showrule::judge(&always, idle, &mut scratch, &mut tally).unwrap_err();
+/// let refusal = showrule::judge(&always, idle, &mut scratch, &mut tallies, 2).unwrap_err();
 /// assert_eq!((refusal.number(), refusal.place()), (21, 1));
 /// # Ok::<(), showrule::Refusal>(())
 /// ```
-pub fn judge(table: &[u32], recording: Recording, scratch: &mut [u64], tally: &mut Tally) -> Result<Judgement, Refusal> {
-    let before = *tally;
+pub fn judge(
+    table: &[u32],
+    recording: Recording,
+    scratch: &mut [u64],
+    tallies: &mut [Tally],
+    desk: usize,
+) -> Result<Judgement, Refusal> {
     let (mut holds, mut moments, mut failing, mut place) = (false, 0, 0, 0);
     let number = unsafe {
         ffi::showrule_judge(
@@ -318,15 +328,18 @@ pub fn judge(table: &[u32], recording: Recording, scratch: &mut [u64], tally: &m
             recording.driven,
             scratch.as_mut_ptr(),
             scratch.len(),
-            &mut tally.judged,
-            &mut tally.held,
+            tallies.as_mut_ptr(),
+            tallies.len(),
+            desk,
             &mut holds,
             &mut moments,
             &mut failing,
             &mut place,
         )
     };
-    Call { tally: before, ..judging(table, recording, scratch) }.answer(number, place)?;
+    // refused, the tallies are as they were
+    let tally = tallies.get(desk).copied().unwrap_or_default();
+    Call { desks: tallies.len(), desk, tally, ..judging(table, recording, scratch) }.answer(number, place)?;
     Ok(Judgement { holds, moments, failing })
 }
 

@@ -119,6 +119,11 @@ pub enum Refusal {
     LimitsOutside {
         limits: Limits,
     },
+    /// No tally of the desk is lent: of so many desks there is one, from number 0 on.
+    DeskOutside {
+        desk: usize,
+        desks: usize,
+    },
     /// A number that this crate does not know.
     Other {
         number: u32,
@@ -137,6 +142,8 @@ pub(crate) struct Call<'a> {
     pub samples: usize,
     pub start: usize,
     pub driven: usize,
+    pub desks: usize,
+    pub desk: usize,
     pub tally: Tally,
     pub of_plain_form: bool,
 }
@@ -185,6 +192,7 @@ impl Call<'_> {
             23 => Refusal::CountDiffers { count: right as usize, words: words.len() },
             24 => Refusal::WrongHeader { kind, class: left, written: words.iter().any(|word| word >> 28 >= 12) },
             25 => Refusal::LimitsOutside { limits: self.limits },
+            26 => Refusal::DeskOutside { desk: self.desk, desks: self.desks },
             _ => Refusal::Other { number, place },
         }
     }
@@ -218,6 +226,7 @@ impl Refusal {
             Refusal::CountDiffers { .. } => 23,
             Refusal::WrongHeader { .. } => 24,
             Refusal::LimitsOutside { .. } => 25,
+            Refusal::DeskOutside { .. } => 26,
             Refusal::Other { number, .. } => number,
         }
     }
@@ -341,6 +350,10 @@ impl fmt::Display for Refusal {
             Refusal::LimitsOutside { limits } => {
                 let (until_like, most) = (limits.until_like, Limits::HIGHEST.until_like);
                 write!(f, "the limit on until-like words is {until_like}, and a house may set 0 to {most}")
+            }
+            Refusal::DeskOutside { desk, desks: 0 } => write!(f, "desk {desk} has no tally: none is lent"),
+            Refusal::DeskOutside { desk, desks } => {
+                write!(f, "desk {desk} has no tally: those of desks 0 to {} are lent", desks - 1)
             }
             Refusal::Other { number, place } => write!(f, "refused {number} at {place}"),
         }

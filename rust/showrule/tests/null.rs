@@ -5,7 +5,7 @@ use std::ptr::{null, null_mut};
 #[test]
 fn empty_slices() {
     let (mut words, mut place, mut from) = (9, 9, 9);
-    let (mut judged, mut held, mut holds, mut moments, mut failing) = (5, 3, true, 9, 9);
+    let (mut holds, mut moments, mut failing) = (true, 9, 9);
     let letter = [0x001F_C001u32, 0x3000_0001];
     unsafe {
         assert_eq!((showrule_check(null(), 0, false, 64, &mut place), place), (1, 0));
@@ -31,14 +31,34 @@ fn empty_slices() {
             1,
             null_mut(),
             0,
-            &mut judged,
-            &mut held,
+            null_mut(),
+            0,
+            0,
             &mut holds,
             &mut moments,
             &mut failing,
             &mut place,
         );
-        assert_eq!((number, judged, held, holds, moments, failing), (13, 5, 3, false, 0, 0));
+        assert_eq!((number, holds, moments, failing, place), (13, false, 0, 0, 0));
+        let (sample, mut scratch) = ([1], [0]);
+        let number = showrule_judge(
+            letter.as_ptr(),
+            2,
+            sample.as_ptr(),
+            1,
+            0,
+            1,
+            scratch.as_mut_ptr(),
+            1,
+            null_mut(),
+            0,
+            0,
+            &mut holds,
+            &mut moments,
+            &mut failing,
+            &mut place,
+        );
+        assert_eq!((number, holds, moments, failing, place), (26, false, 0, 0, 0));
         let number = showrule_row(letter.as_ptr(), 2, [1].as_ptr(), 1, 0, 1, null_mut(), 0, &mut from, &mut words, &mut place);
         assert_eq!((number, from, words), (16, 0, 0));
     }

@@ -131,23 +131,42 @@ fn one(samples: &[u32], start: usize) -> Recording<'_> {
 
 #[test]
 fn recordings() {
-    let mut tally = Tally { judged: 3, held: 2 };
-    is(judge(&ALWAYS, one(&[], 0), &mut [], &mut tally), 13, 0, "the recording has no sample");
+    let mut tallies = [Tally { judged: 3, held: 2 }];
+    is(judge(&ALWAYS, one(&[], 0), &mut [], &mut tallies, 0), 13, 0, "the recording has no sample");
     is(row(&ALWAYS, one(&[0; 4097], 0), &mut []), 14, 0, "the recording has 4097 samples, and at most 4096 are judged");
     is(row(&ALWAYS, one(&[0; 3], 3), &mut []), 15, 0, "the loop starts at moment 3, and the recording's moments are 0 to 2");
     is(row(&ALWAYS, one(&[0; 65], 3), &mut [0; 3]), 16, 0, "the scratch has 3 words of 64 bits, and the rows need 4");
-    assert_eq!(tally, Tally { judged: 3, held: 2 });
-    let mut full = Tally { judged: u32::MAX, held: 2 };
-    is(judge(&ALWAYS, one(&[0], 0), &mut [0; 2], &mut full), 17, 0, "the tally is full: 4294967295 judgements are counted");
-    let mut damaged = Tally { judged: 1, held: 2 };
-    is(judge(&ALWAYS, one(&[0], 0), &mut [0; 2], &mut damaged), 17, 0, "the tally has 2 held of 1 judged: it is damaged");
+    assert_eq!(tallies, [Tally { judged: 3, held: 2 }]);
+}
+
+#[test]
+fn tallies() {
+    let (counted, full, damaged) =
+        (Tally { judged: 3, held: 2 }, Tally { judged: u32::MAX, held: 2 }, Tally { judged: 1, held: 2 });
+    let before = [counted, full, damaged];
+    let mut tallies = before;
+    let mut judge = |desk: usize| judge(&ALWAYS, one(&[1], 0), &mut [0; 2], &mut tallies, desk).map(|judgement| judgement.holds);
+    is(judge(1), 17, 0, "the tally is full: 4294967295 judgements are counted");
+    is(judge(2), 17, 0, "the tally has 2 held of 1 judged: it is damaged");
+    is(judge(3), 26, 0, "desk 3 has no tally: those of desks 0 to 2 are lent");
+    is(judge(usize::MAX), 26, 0, "desk 18446744073709551615 has no tally: those of desks 0 to 2 are lent");
+    assert!(judge(0).unwrap());
+    assert_eq!(tallies, [Tally { judged: 4, held: 3 }, full, damaged]);
+    is(showrule::judge(&ALWAYS, one(&[1], 0), &mut [0; 2], &mut [], 0), 26, 0, "desk 0 has no tally: none is lent");
+    is(
+        showrule::judge(&ALWAYS, one(&[1], 0), &mut [0; 1], &mut [], 0),
+        16,
+        0,
+        "the scratch has 1 words of 64 bits, and the rows need 2",
+    );
 }
 
 #[test]
 fn driven_letters() {
     let or = [0x001F_C003, 0x3000_0003, 0x4000_0005, 0x6000_4002];
-    let judge =
-        |table: &[u32], driven| judge(table, Recording { samples: &[0], start: 0, driven }, &mut [0; 3], &mut Tally::default());
+    let judge = |table: &[u32], driven| {
+        judge(table, Recording { samples: &[0], start: 0, driven }, &mut [0; 3], &mut [Tally::default()], 0)
+    };
     is(judge(&or, 0), 21, 1, "word 1 names letter 3, and the recording drives no letter");
     is(judge(&or, 2), 21, 1, "word 1 names letter 3, and the recording drives letters 1 to 2");
     is(judge(&or, 4), 21, 2, "word 2 names letter 5, and the recording drives letters 1 to 4");

@@ -37,7 +37,7 @@ fn longest_tables() {
         check(&table, true, MOST_WORDS).unwrap();
         classify(&table, &mut bytes).unwrap();
         let recording = Recording { samples: &samples, start: 4_095, driven: 32 };
-        assert!(judge(&table, recording, &mut scratch, &mut Tally::default()).unwrap().holds);
+        assert!(judge(&table, recording, &mut scratch, &mut [Tally::default()], 0).unwrap().holds);
         assert_eq!(row(&table, Recording { start: 0, ..recording }, &mut scratch).unwrap().len(), 64);
     });
 }

@@ -1,4 +1,4 @@
--- The row call's checks, and where they pass the tally's.
+-- The row call's checks, and where they pass the named desk's.
 use borrow.Author.Needs.{needs}
 use mathlib.Core.Path.{sym, _∙_}
 use Rattle.judge_conditions.proofs.Outcomes.{judge-refused, judge-accepted}
@@ -9,7 +9,7 @@ returns : tie.Need-returns
 returns c = sym (judge-refused _ _ _ _ _ _ _ (sym (c .before .before .before .check-row .ensures) ∙ c .before .why .given .1))
 
 returns-2 : tie.Need-returns-2
-returns-2 c = c .check-tally .ensures ∙ sym (judge-accepted _ _ _ _ _ _ (sym (c .before .before .before .check-row .ensures) ∙ c .before .enum-told .given .1))
+returns-2 c = c .check-desk .ensures ∙ sym (judge-accepted _ _ _ _ _ _ (sym (c .before .before .before .check-row .ensures) ∙ c .before .enum-told .given .1))
 
 pub check-judge-spec : {M : Type 1} → statement M
 check-judge-spec =

@@ -42,6 +42,9 @@ pub struct Case {
     pub samples: Samples,
     pub start: usize,
     pub driven: usize,
+    /// How many desks have a tally, the number of the desk that is named, and its tally.
+    pub desks: usize,
+    pub desk: usize,
     pub tally: Tally,
 }
 
@@ -80,6 +83,8 @@ impl Case {
             samples: Samples::Listed(vec![]),
             start: 0,
             driven: 0,
+            desks: 3,
+            desk: 1,
             tally: Tally { judged: 0, held: 0 },
         }
     }
@@ -110,7 +115,8 @@ impl Case {
         let mut words = vec![self.step as u32, number(self.chain), number(listed.len()), number(place), word];
         words.extend([self.limits.written, self.limits.until_like, self.room, self.second].map(number));
         words.extend([self.plain as u32, number(self.limit)]);
-        words.extend([number(count), number(self.start), number(self.driven), self.tally.judged, self.tally.held, seed]);
+        words.extend([count, self.start, self.driven, self.desks, self.desk].map(number));
+        words.extend([self.tally.judged, self.tally.held, seed]);
         words.extend(listed);
         words.extend(samples);
         words
@@ -186,9 +192,13 @@ impl Case {
             }
             Step::Judge => {
                 let mut scratch = vec![u64::MAX; 2_100];
-                let mut tally = self.tally;
+                // the tallies of other desks are full
+                let mut tallies = vec![Tally { judged: u32::MAX, held: 0 }; self.desks];
+                tallies.iter_mut().skip(self.desk).take(1).for_each(|tally| *tally = self.tally);
                 let samples = self.samples();
-                let judged = steps::judge(&table, self.recording(&samples), &mut scratch[..self.room], &mut tally);
+                let recording = self.recording(&samples);
+                let judged = steps::judge(&table, recording, &mut scratch[..self.room], &mut tallies, self.desk);
+                let tally = tallies.get(self.desk).unwrap_or(&self.tally);
                 let j = judged.unwrap_or(Judgement { holds: false, moments: 0, failing: 0 });
                 let holds = if j.holds { "holds" } else { "fails" };
                 let (said, rows) = (answer(&judged), rows(&scratch));

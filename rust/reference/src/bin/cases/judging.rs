@@ -1,5 +1,5 @@
-//! Judging and the row call: a rule of all fifteen kinds over recordings of many lengths and loop starts; refusals 13 to 17, 21 and 22,
-//! and their order; driven counts at their edges, with bits beyond them set.
+//! Judging and the row call: a rule of all fifteen kinds over recordings of many lengths and loop starts; refusals 13 to 17, 21, 22 and 26,
+//! and their order; driven counts at their edges, with bits beyond them set; desks at the edges of their number.
 use crate::case::{Case, Samples, Step};
 use reference::steps::Tally;
 
@@ -34,6 +34,7 @@ pub fn cases() -> Vec<Case> {
     }
     cases.extend(refused());
     cases.extend(driven());
+    cases.extend(desks());
     cases
 }
 
@@ -94,6 +95,21 @@ fn driven() -> Vec<Case> {
                 let label = format!("{name}, {driven} driven, bits beyond them {undriven}");
                 cases.extend(both(&label, table, Samples::Listed(samples.to_vec()), 2, driven, 20, tally(5, 2)));
             }
+        }
+    }
+    cases
+}
+
+/// Desks at the edges of their number: 26 before 17 and after 16, and a full tally of another desk, which is not looked at.
+fn desks() -> Vec<Case> {
+    let mut cases = Vec::new();
+    for (desks, desk) in
+        [(0, 0), (0, 1), (1, 0), (1, 1), (1, u32::MAX as usize), (2, 0), (2, 1), (2, 2), (4_096, 4_095), (4_096, 4_096)]
+    {
+        for (name, room, tally) in [("", 4, tally(5, 2)), (", full", 4, tally(u32::MAX, 2)), (", 16", 3, tally(5, 6))] {
+            let label = format!("desk {desk} of {desks}{name}");
+            let judged = both(&label, &ALWAYS, Samples::Listed(vec![1; 65]), 64, 1, room, tally);
+            cases.extend(judged.map(|case| Case { desks, desk, ..case }));
         }
     }
     cases

@@ -1,0 +1,2 @@
+-- The history of calls, and what it says of each desk and of the house.
+pub mod History
