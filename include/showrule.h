@@ -61,7 +61,8 @@ enum {
     SHOWRULE_COUNT_DIFFERS = 23,       /* the count in the header is not the number of words after it */
     SHOWRULE_WRONG_HEADER = 24,        /* the header's kind is not 0, or its class not that of the table */
     SHOWRULE_LIMITS_OUTSIDE = 25,      /* the limit on written words is not 1 to 256, or that on until-like words not 0 to 10 */
-    SHOWRULE_DESK_OUTSIDE = 26         /* the desk's number is not below the number of tallies */
+    SHOWRULE_DESK_OUTSIDE = 26,        /* the desk's number is not below the number of tallies */
+    SHOWRULE_DRIVEN_COUNTS_DIFFER = 27 /* two recordings that are compared drive different numbers of letters */
 };
 
 /* The most of each that a call takes; of words, beside the header. */
@@ -171,6 +172,15 @@ uint32_t showrule_judge(const uint32_t *table, size_t length, const uint32_t *sa
  * the scratch of *row_words words from scratch[*from] on. Refused, both are 0, and the scratch is as it was. */
 uint32_t showrule_row(const uint32_t *table, size_t length, const uint32_t *samples, size_t count, size_t start, size_t driven,
                       uint64_t *scratch, size_t room, size_t *from, size_t *row_words, size_t *place);
+
+/* Whether two recordings of one show, of any lengths and loop starts, have the same driven bits at every moment when both are read on for
+ * ever: the first of `count` samples with its loop start and driven count, and the second, the `other` one. 13 to 15 and 22 of the first,
+ * then the same of the second, then 27 where the driven counts differ; every place is 0. Accepted, *same says whether they have, and where
+ * they have not, *moment is the first moment that differs: a driven letter under X, *moment times, then holds at moment 0 of one of them
+ * alone. Where they are the same, every rule of driven letters holds at moment 0 of both or of neither. The bits above the driven ones are
+ * never looked at. *moment is 0 where they are the same; refused, *same is false and *moment 0. */
+uint32_t showrule_compare(const uint32_t *samples, size_t count, size_t start, size_t driven, const uint32_t *others, size_t other_count,
+                          size_t other_start, size_t other_driven, bool *same, size_t *moment, size_t *place);
 
 #ifdef __cplusplus
 }

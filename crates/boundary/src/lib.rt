@@ -11,6 +11,8 @@ ghost use Rattle.claims.specs.Whole.{wholeAnswer, wholeResult};
 ghost use Rattle.judging.specs.Judging.{judgeOutcome, rowOutcome, scratchAfter, deskOf, talliesAfter};
 ghost use Rattle.judging.specs.Judging.{reply as judgeReply};
 ghost use Rattle.replies.specs.Replies.{FormReply, JudgeReply, RowReply};
+ghost use Rattle.agreement.specs.Comparing.{comparison};
+ghost use Rattle.agreement.specs.Replies.{ComparisonReply};
 use judge_calls::judge;
 use tally::Tally;
 
@@ -193,4 +195,29 @@ pub extern "C" fn showrule_row(
         (now (table .entry)) (now (samples .entry)) start driven (now (scratch .entry)) ⌝ }
 {
     row_call::row(table, samples, start, driven, scratch, from, words, place)
+}
+
+// Whether two recordings, read on for ever, have the same driven bits at every moment, and if not, the first moment that differs.
+#[no_mangle]
+pub extern "C" fn showrule_compare(
+    samples: &[u32],
+    start: usize,
+    driven: usize,
+    others: &[u32],
+    other_start: usize,
+    other_driven: usize,
+    same: &mut bool,
+    moment: &mut usize,
+    place: &mut usize,
+) -> u32
+    ensures { λ r. ⌜ ComparisonReply
+        (comparison (now (samples .entry)) start driven (now (others .entry)) «other_start» «other_driven»)
+        r (now (same .exit)) (now (moment .exit)) (now (place .exit)) ⌝ }
+{
+    comparing::reply(
+        comparing::compare(samples, start, driven, others, other_start, other_driven),
+        same,
+        moment,
+        place,
+    )
 }

@@ -1,4 +1,4 @@
-// The judge's two calls of a case, on a scratch that held a pattern, and what comes back.
+// The judge's two calls of a case, on a scratch that held a pattern, the comparison of two recordings, and what comes back.
 use case_input::input::Case;
 use case_output::show;
 use case_output::sum;
@@ -73,4 +73,29 @@ pub fn row(c: Case, table: &[u32], samples: &[u32]) {
     show::number(from);
     show::number(words);
     sum::scratch(&scratch);
+}
+
+// The first recording stands in place of a table, its loop start and driven count in place of the rooms; the second is the recording.
+pub fn compare(c: Case, first: &[u32], second: &[u32]) {
+    let mut same = true;
+    let mut moment: usize = 9;
+    let mut place: usize = 9;
+    let number = boundary::showrule_compare(
+        first,
+        c.room,
+        c.second,
+        second,
+        c.start,
+        c.driven,
+        &mut same,
+        &mut moment,
+        &mut place,
+    );
+    show::answer(number, place);
+    if same {
+        show::text(b", same");
+    } else {
+        show::text(b", not the same");
+    }
+    show::number(moment);
 }

@@ -14,7 +14,8 @@ fn call<'t>(c: Case, table: &'t [u32], samples: &'t [u32]) {
         6 => case_judge::judge(c, table, samples),
         7 => case_judge::row(c, table, samples),
         8 => case_forms::text(c, table),
-        _ => case_forms::dialect(c, table),
+        9 => case_forms::dialect(c, table),
+        _ => case_judge::compare(c, table, samples),
     }
     show::end();
 }

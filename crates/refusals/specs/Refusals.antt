@@ -3,7 +3,7 @@ use Prim.Native.Nat.{ℕ}
 use mathlib.Core.Bool.{Bool, true, false}
 use mathlib.Core.List.{List, [], _∷_}
 use Rattle.refusals.specs.declared.Refusal.{Refusal}
-use Rattle.refusals.specs.declared.Refusal.the-variants.{NoWord, TooManyWords, KindZero, NotPlain, OperandZero, OperandNotEarlier, LetterOutOfRange, FieldNotZero, Repeated, Unused, TooManyFixpoints, ResultTooShort, NoSample, TooManySamples, LoopStartOutside, ScratchTooShort, TallyFull, NotWords, NotGrammar, TextTooLong, LetterNotDriven, TooManyDriven, CountDiffers, HeaderWrong, LimitsOutside, DeskOutside}
+use Rattle.refusals.specs.declared.Refusal.the-variants.{NoWord, TooManyWords, KindZero, NotPlain, OperandZero, OperandNotEarlier, LetterOutOfRange, FieldNotZero, Repeated, Unused, TooManyFixpoints, ResultTooShort, NoSample, TooManySamples, LoopStartOutside, ScratchTooShort, TallyFull, NotWords, NotGrammar, TextTooLong, LetterNotDriven, TooManyDriven, CountDiffers, HeaderWrong, LimitsOutside, DeskOutside, DrivenCountsDiffer}
 use Rattle.refusals.specs.declared.Report.{Report}
 use Rattle.refusals.specs.declared.Outcome.{Outcome}
 use Rattle.refusals.specs.declared.Outcome.the-variants.{Accepted, Refused}
@@ -43,6 +43,7 @@ reportOf CountDiffers = whole 23
 reportOf HeaderWrong = whole 24
 reportOf LimitsOutside = whole 25
 reportOf DeskOutside = whole 26
+reportOf DrivenCountsDiffer = whole 27
 
 abbrev pub numberOf : Refusal → ℕ
 numberOf r = reportOf r .0

@@ -29,6 +29,7 @@ pub enum Refusal {
     HeaderWrong,
     LimitsOutside,
     DeskOutside,
+    DrivenCountsDiffer,
 }
 
 // A step that has nothing to say when it is accepted.
@@ -70,6 +71,7 @@ pub fn report_of(r: Refusal) -> Report
         Refusal::HeaderWrong => Report(24, 0),
         Refusal::LimitsOutside => Report(25, 0),
         Refusal::DeskOutside => Report(26, 0),
+        Refusal::DrivenCountsDiffer => Report(27, 0),
     }
 }
 

@@ -3,7 +3,6 @@ use Prim.Native.Nat.{ℕ, zero, suc, _+_, _-_, _*_, _≤_, _<_}
 use mathlib.Core.Path.{_≡_, refl, sym, ap, ap₂, subst, _∙_}
 use mathlib.Core.Bool.{Bool, false}
 use mathlib.Core.List.{List, [], _∷_, _++_}
-use native.Mathlib.Decide.{decLt, decLe}
 use native.Mathlib.Numerals.{add-one}
 use native.Mathlib.Nat.{mul-le-mul, mul-le-mul-right, le-trans}
 use native.Mathlib.Omega.{arith}
@@ -20,28 +19,12 @@ use Rattle.table.proofs.Formulas.{length-formulas, formula-at}
 use Rattle.table.proofs.Accepted.{WellFormed, WellFormedWord, accepted-well-formed}
 use Rattle.operators.specs.declared.operator.Operator.{Operator}
 use Rattle.operand_rows.specs.Operands.{rowNumber, Standing, Prepared}
-use Rattle.row_filling.specs.Filling.{lassoBy, lassoOf, rowOf, rowsThen, Fillable, firstOperand}
+use Rattle.row_filling.specs.Filling.{lassoOf, rowOf, rowsThen, Fillable, firstOperand}
 use Rattle.operators.specs.Looped.{Meaning, literally, operation, meaning, does, rowBy}
 use Rattle.row_filling.proofs.Looped.{Earlier, operands-earlier, letter-known, word-row}
 use Rattle.row_filling.proofs.Scratch.{width, row-part, rowsThen-over, rowsThen-more}
 use Rattle.operand_rows.proofs.Parts.{row-end}
-
--- samples, a loop start that is inside and a driven count of at most 32 are a lasso
-abbrev pub Inside : List ℕ → ℕ → ℕ → Type 0
-Inside samples start driven =
-    (h : start < length samples) × (k : driven ≤ 32)
-    × (lassoOf samples start driven ≡ record { samples = samples; start = start; driven = driven; inside = h; few = k })
-
-pub lasso-inside : (samples : List ℕ) (start driven : ℕ) → start < length samples → driven ≤ 32 → Inside samples start driven
-unfolding lassoOf
-lasso-inside samples start driven h k = by (decLt start (length samples)) (decLe driven 32)
-  where
-    by : (d : Dec (start < length samples)) (e : Dec (driven ≤ 32))
-        → (i : start < length samples) × (j : driven ≤ 32)
-        × (lassoBy samples start driven d e ≡ record { samples = samples; start = start; driven = driven; inside = i; few = j })
-    by (yes i) (yes j) = (i, j, refl)
-    by (yes i) (no j) = absurd (j k)
-    by (no i) e = absurd (i h)
+pub use Rattle.logic.proofs.Lasso.Period.{Inside, lasso-inside}
 
 -- the row of an earlier word
 operand-row : (r : Lasso) (φs : List Formula) (s : List ℕ) (n : ℕ) → s ≡ rowsThen r φs s → 1 ≤ n → n ≤ length φs

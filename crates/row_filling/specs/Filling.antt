@@ -3,26 +3,16 @@ use Prim.Native.Nat.{ℕ, _*_, _≤_, _<_}
 use mathlib.Core.Path.{_≡_}
 use mathlib.Core.Bool.{false, cond}
 use mathlib.Core.List.{List, [], _∷_, _++_}
-use native.Mathlib.Decide.{decLt, decLe}
 use lib.ListN.{length, drop}
-use lib.Dec.{lit<, lit≤, eqb}
+use lib.Dec.{eqb}
 use Rattle.logic.specs.Formula.{Formula}
 use Rattle.logic.specs.Lasso.{Lasso}
+unfoldable pub use Rattle.logic.specs.Lasso.{lassoOf}
 use Rattle.logic.specs.Truth.{truth}
 use Rattle.row_words.specs.Row.{row, rowWords}
 use Rattle.table.specs.Node.{left, right}
 use Rattle.refusals.specs.declared.Outcome.the-variants.{Accepted}
 use Rattle.table.specs.Checks.{checked}
-
--- samples, a loop start and a driven count as a lasso; where the loop start is not below the number of samples or the count is over 32, both of which
--- are refused, a single sample 0 of which nothing is driven
-abbrev pub lassoBy : (samples : List ℕ) (start driven : ℕ) → Dec (start < length samples) → Dec (driven ≤ 32) → Lasso
-lassoBy samples start driven (yes h) (yes k) = record { samples = samples; start = start; driven = driven; inside = h; few = k }
-lassoBy samples start driven (yes h) (no k) = record { samples = 0 ∷ []; start = 0; driven = 0; inside = lit< tt; few = lit≤ tt }
-lassoBy samples start driven (no h) k = record { samples = 0 ∷ []; start = 0; driven = 0; inside = lit< tt; few = lit≤ tt }
-
-unfoldable pub lassoOf : List ℕ → ℕ → ℕ → Lasso
-lassoOf samples start driven = lassoBy samples start driven (decLt start (length samples)) (decLe driven 32)
 
 -- the row of a formula: its truth at each position below the number of samples
 unfoldable pub rowOf : Lasso → Formula → List ℕ

@@ -61,6 +61,8 @@ pub fn with_text(numbers: &mut Numbers, limits: Limits, table: Vec<u32>, text: V
     let samples = samples(numbers, count);
     let rows = count * samples.len().div_ceil(64);
     let tallies: Vec<Tally> = (0..numbers.one_of(&[0, 1, 1, 2, 3, 8])).map(|_| tally(numbers)).collect();
+    let (start, driven) = (start(numbers, samples.len()), driven(numbers, words(&table)));
+    let (others, other_start, other_driven) = recording_like(numbers, &samples, start, driven);
     Input {
         text_table: room(numbers, steps::text_words(&text, limits).map_or(20, |words| 1 + words.len())),
         text,
@@ -73,13 +75,16 @@ pub fn with_text(numbers: &mut Numbers, limits: Limits, table: Vec<u32>, text: V
         dialect: room(numbers, dialect),
         form_plain: if numbers.once_in(6) { room(numbers, plain) } else { 1 + Limits::HIGHEST.plain() },
         form: room(numbers, form),
-        start: start(numbers, samples.len()),
-        driven: driven(numbers, words(&table)),
+        start,
+        driven,
         undriven: numbers.next() as u32,
         samples,
         scratch: room(numbers, rows),
         desk: desk(numbers, tallies.len()),
         tallies,
+        others,
+        other_start,
+        other_driven,
         table,
     }
 }
@@ -356,6 +361,46 @@ fn driven(numbers: &mut Numbers, words: &[u32]) -> usize {
         8 => 0,
         _ => numbers.between(highest, 32),
     }
+}
+
+/// A recording to compare with one: mostly the same show, its loop entered later and gone round more often, then often with a bit of a
+/// sample, the loop start or the driven count changed; at times another show.
+fn recording_like(numbers: &mut Numbers, samples: &[u32], start: usize, driven: usize) -> (Vec<u32>, usize, usize) {
+    let sound = start < samples.len() && samples.len() <= 4_096;
+    let (mut others, mut other_start) = (samples.to_vec(), start);
+    if sound && !numbers.once_in(8) {
+        let round = samples.len() - start;
+        // the reference walks as far as both loops need to begin anew at once
+        let longest = if numbers.once_in(300) { 4_096 } else { numbers.one_of(&[10, 20, 60, 200]) };
+        let longest = longest.max(samples.len());
+        let later = numbers.below(longest - samples.len() + 1);
+        let times = 1 + numbers.below((longest - start - later) / round);
+        let sample = |i: usize| samples[if i < start { i } else { start + (i - start) % round }];
+        others = (0..start + later + times * round).map(sample).collect();
+        other_start = start + later;
+    } else if numbers.once_in(2) {
+        others = self::samples(numbers, 20);
+        other_start = self::start(numbers, others.len());
+    }
+    let changes = numbers.one_of(&[0, 0, 1, 1, 2]);
+    for _ in 0..changes {
+        let at = numbers.below(others.len().max(1));
+        let bits = if numbers.once_in(2) { 32 } else { driven.clamp(1, 32) };
+        let bit = numbers.below(bits);
+        match numbers.below(8) {
+            0..=3 if !others.is_empty() => others[at] ^= 1 << bit,
+            4 if !others.is_empty() => drop(others.pop()),
+            5 => other_start = self::start(numbers, others.len()),
+            6 => other_start = other_start.wrapping_sub(1),
+            _ => {}
+        }
+    }
+    let other_driven = match numbers.below(16) {
+        0 => numbers.between(0, 33),
+        1 => driven.wrapping_add(1),
+        _ => driven,
+    };
+    (others, other_start, other_driven)
 }
 
 fn tally(numbers: &mut Numbers) -> Tally {

@@ -35,11 +35,19 @@ pub struct Input {
     /// One for each desk, and the desk that the judgement names.
     pub tallies: Vec<Tally>,
     pub desk: usize,
+    /// The recording that the first is compared with.
+    pub others: Vec<u32>,
+    pub other_start: usize,
+    pub other_driven: usize,
 }
 
 impl Input {
     pub fn recording(&self) -> Recording<'_> {
         Recording { samples: &self.samples, start: self.start, driven: self.driven }
+    }
+
+    pub fn other_recording(&self) -> Recording<'_> {
+        Recording { samples: &self.others, start: self.other_start, driven: self.other_driven }
     }
 
     /// The samples with other bits above the driven ones.
@@ -57,15 +65,18 @@ impl Input {
             words(&self.table).iter().map(|&w| w as u64).sum::<u64>() + self.text.iter().map(|&b| b as u64).sum::<u64>();
         let rest = self.start as u64
             + self.driven.min(1 << 40) as u64
+            + self.other_start.min(1 << 40) as u64
+            + self.other_driven.min(1 << 40) as u64
             + self.limits.written.min(1 << 40) as u64
             + self.limits.until_like.min(1 << 40) as u64
             + self.desk.min(1 << 40) as u64
             + self.tallies.iter().map(|tally| 1 + tally.judged as u64 + tally.held as u64).sum::<u64>()
             + self.limit.min(1 << 40) as u64
             + self.plain_only as u64;
-        let bits = self.samples.iter().chain([&self.undriven]).chain(self.table.first());
+        let bits = self.samples.iter().chain(&self.others).chain([&self.undriven]).chain(self.table.first());
         let bits: u64 = bits.map(|s| s.count_ones() as u64).sum();
-        (self.text.len() + self.table.len() + self.samples.len(), self.table.len(), rooms, numbers + rest + bits)
+        let long = self.text.len() + self.table.len() + self.samples.len() + self.others.len();
+        (long, self.table.len(), rooms, numbers + rest + bits)
     }
 }
 
@@ -83,6 +94,8 @@ impl fmt::Display for Input {
         )?;
         let (samples, start, driven) = (self.samples.len(), self.start, self.driven);
         writeln!(f, "recording of {samples} samples, loop start {start}, {driven} letters driven:{}", hex(&self.samples))?;
+        let (samples, start, driven) = (self.others.len(), self.other_start, self.other_driven);
+        writeln!(f, "compared with {samples} samples, loop start {start}, {driven} letters driven:{}", hex(&self.others))?;
         writeln!(f, "bits above the driven ones in a second call: {:08X}", self.undriven)?;
         let tallies: String = self.tallies.iter().map(|tally| format!(" {} of {},", tally.held, tally.judged)).collect();
         write!(f, "tallies of {} desks, held of judged:{tallies} desk {} named", self.tallies.len(), self.desk)

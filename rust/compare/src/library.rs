@@ -52,6 +52,7 @@ pub trait Library {
         words: &mut usize,
         place: &mut usize,
     ) -> u32;
+    fn compare(&self, first: Recording, second: Recording, same: &mut bool, moment: &mut usize, place: &mut usize) -> u32;
 }
 
 pub struct Product;
@@ -142,6 +143,24 @@ impl Library for Product {
         let Recording { samples, start, driven } = recording;
         let (n, count, room) = (table.len(), samples.len(), scratch.len());
         unsafe { ffi::showrule_row(t, n, samples.as_ptr(), count, start, driven, s, room, from, words, place) }
+    }
+
+    fn compare(&self, first: Recording, second: Recording, same: &mut bool, moment: &mut usize, place: &mut usize) -> u32 {
+        unsafe {
+            ffi::showrule_compare(
+                first.samples.as_ptr(),
+                first.samples.len(),
+                first.start,
+                first.driven,
+                second.samples.as_ptr(),
+                second.samples.len(),
+                second.start,
+                second.driven,
+                same,
+                moment,
+                place,
+            )
+        }
     }
 }
 
@@ -254,6 +273,13 @@ impl Library for Reference {
         let (number, part) = told(steps::row(table, recording, scratch), place);
         let part = part.unwrap_or(0..0);
         (*from, *words) = (part.start, part.len());
+        number
+    }
+
+    fn compare(&self, first: Recording, second: Recording, same: &mut bool, moment: &mut usize, place: &mut usize) -> u32 {
+        let (number, difference) = told(steps::compare(first, second), place);
+        *same = difference == Some(None);
+        *moment = difference.flatten().unwrap_or(0);
         number
     }
 }

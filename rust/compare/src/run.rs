@@ -74,6 +74,7 @@ fn seen(library: &dyn Library, input: &Input) -> Vec<Seen> {
         form(library, input),
         judge(library, input, "judge", input.recording()),
         row(library, input, "row", input.recording()),
+        recordings(library, input, "recordings", input.recording()),
     ]
 }
 
@@ -148,6 +149,43 @@ fn row(library: &dyn Library, input: &Input, step: &'static str, recording: Reco
     Seen { step, number, lent: vec![from as u64, long as u64, place as u64], memory: held(&scratch) }
 }
 
+/// Two recordings compared: the numbers, and both as they were.
+fn recordings(library: &dyn Library, input: &Input, step: &'static str, first: Recording) -> Seen {
+    let (mut same, mut moment, mut place) = (true, BEFORE, BEFORE);
+    let second = input.other_recording();
+    let number = library.compare(first, second, &mut same, &mut moment, &mut place);
+    let memory = input.samples.iter().chain(second.samples).map(|&sample| sample.into()).collect();
+    Seen { step, number, lent: vec![same.into(), moment as u64, place as u64], memory }
+}
+
+/// N10, tried by the library's own judge: the table holds at moment 0 of both recordings or of neither where they are the same, and where
+/// they differ, a driven letter under X, as often as moments come before, holds at moment 0 of one alone.
+fn telling(library: &dyn Library, input: &Input) -> Seen {
+    let (mut same, mut moment, mut place) = (true, 0, 0);
+    let (first, second) = (input.recording(), input.other_recording());
+    let number = library.compare(first, second, &mut same, &mut moment, &mut place);
+    let holds = |table: &[u32], recording: Recording| {
+        let mut scratch = vec![0; words_of(table).len() * recording.len().div_ceil(64)];
+        let mut lent = Lent { holds: false, moments: 0, failing: 0 };
+        let tallies = &mut [Tally { judged: 0, held: 0 }];
+        (library.judge(table, recording, &mut scratch, tallies, 0, &mut lent, &mut 0), lent.holds)
+    };
+    let under_next = |letter: u32| {
+        let nexts = (1..=moment as u32).map(|operand| 0x7000_0000 + operand);
+        headed(&[0x3000_0000 + letter].into_iter().chain(nexts).collect::<Vec<_>>())
+    };
+    let mut told = true;
+    if number == 0 && same && words_of(&input.table).len() * input.others.len() < 30_000 {
+        told = holds(&input.table, first) == holds(&input.table, second);
+    } else if number == 0 && !same && moment < 300 {
+        let letters = 1..=u32::try_from(input.driven).expect("at most 32");
+        told = letters.map(under_next).any(|rule| holds(&rule, first) != holds(&rule, second));
+    }
+    Seen { step: TELLING, number: 0, lent: vec![told.into()], memory: vec![] }
+}
+
+const TELLING: &str = "recordings that are the same, or a letter under X that tells them apart";
+
 /// Demand 3, tried: whether the library's form of the rule holds where the rule does, and is in Delta-2, by its own judge and classes.
 fn agreement(library: &dyn Library, input: &Input) -> Seen {
     let mut lent = AGREED.to_vec();
@@ -219,17 +257,23 @@ fn highest_letter(words: &[u32]) -> usize {
     letters.map(|word| (word & 0x3FFF) as usize).max().unwrap_or(0)
 }
 
-/// The judge and the row call over samples that differ above the driven bits alone: they answer and leave what they did before.
-fn redriven(library: &dyn Library, input: &Input) -> [(Seen, Seen); 2] {
+/// The judge, the row call and the comparison over samples that differ above the driven bits alone: they answer and leave what they did
+/// before.
+fn redriven(library: &dyn Library, input: &Input) -> [(Seen, Seen); 3] {
     let samples = input.redriven();
     let other = Recording { samples: &samples, ..input.recording() };
     [
         (judge(library, input, REDRIVEN[0], other), judge(library, input, REDRIVEN[0], input.recording())),
         (row(library, input, REDRIVEN[1], other), row(library, input, REDRIVEN[1], input.recording())),
+        (recordings(library, input, REDRIVEN[2], other), recordings(library, input, REDRIVEN[2], input.recording())),
     ]
 }
 
-const REDRIVEN: [&str; 2] = ["judge, other bits above the driven ones", "row, other bits above the driven ones"];
+const REDRIVEN: [&str; 3] = [
+    "judge, other bits above the driven ones",
+    "row, other bits above the driven ones",
+    "recordings, other bits above the driven ones",
+];
 
 /// A written table printed as text, and that text read: whether it is printed as the reference prints it, whether the table comes back
 /// in first-need order (unless it has kind 4, which is read as two words), and whether both have the same form.
@@ -277,7 +321,9 @@ pub fn compare(
     let agreed = Seen { step: AGREEMENT, number: 0, lent: AGREED.to_vec(), memory: vec![] };
     let came_back = Seen { step: ROUND_TRIP, number: 0, lent: CAME_BACK.to_vec(), memory: vec![] };
     let as_said = || Seen { step: CONVERSION, number: 0, lent: CONVERTED.to_vec(), memory: vec![] };
-    let of_product = [(agreement(product, input), agreed), (round_trip(product, input), came_back)];
+    let told = Seen { step: TELLING, number: 0, lent: vec![1], memory: vec![] };
+    let of_product =
+        [(agreement(product, input), agreed), (round_trip(product, input), came_back), (telling(product, input), told)];
     let of_both = [(conversion(product, input), as_said()), (conversion(reference, input), as_said())];
     let steps = seen(product, input).into_iter().zip(seen(reference, input)).chain(of_product).chain(of_both);
     let steps = steps.chain(redriven(product, input));

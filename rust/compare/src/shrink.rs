@@ -72,12 +72,16 @@ fn changes(input: &Input) -> Vec<Change> {
     let mut all: Vec<Change> = Vec::new();
     let mut with = |change: Change| all.push(change);
     let (n, l, b) = (words(&input.table).len(), input.samples.len(), input.text.len());
+    let o = input.others.len();
     with(Box::new(|i| i.table.clear()));
     for keep in [0, n / 2, n * 3 / 4] {
         with(Box::new(move |i| i.table.truncate(1 + keep)));
     }
     for keep in [0, l / 2, l * 3 / 4] {
         with(Box::new(move |i| i.samples.truncate(keep)));
+    }
+    for keep in [0, o / 2, o * 3 / 4] {
+        with(Box::new(move |i| i.others.truncate(keep)));
     }
     // any part of the text left out
     for long in std::iter::successors(Some(b), |long| Some(long / 2)).take_while(|&long| long > 0) {
@@ -93,6 +97,32 @@ fn changes(input: &Input) -> Vec<Change> {
     }
     for j in (0..l).rev().take(300) {
         with(Box::new(move |i| drop(i.samples.drain(j..=j))));
+    }
+    for j in (0..o).rev().take(100) {
+        with(Box::new(move |i| drop(i.others.drain(j..=j))));
+        with(Box::new(move |i| i.others[j] &= i.others[j].wrapping_sub(1)));
+    }
+    with(Box::new(|i| i.other_start = 0));
+    with(Box::new(|i| i.other_start = i.other_start.saturating_sub(1)));
+    with(Box::new(|i| i.other_driven = i.driven));
+    with(Box::new(|i| (i.driven, i.other_driven) = (i.driven.saturating_sub(1), i.other_driven.saturating_sub(1))));
+    with(Box::new(|i| i.other_driven = i.other_driven.min(33)));
+    with(Box::new(|i| i.other_driven = i.other_driven.saturating_sub(1)));
+    // a sample less of both
+    for j in (0..l.min(o)).rev().take(100) {
+        with(Box::new(move |i| {
+            i.samples.remove(j);
+            i.others.remove(j);
+        }));
+    }
+    // the same show from a later moment on
+    for later in [l.min(o) / 2, 1] {
+        with(Box::new(move |i| {
+            let later = later.min(i.start).min(i.other_start);
+            i.samples.drain(..later.min(l));
+            i.others.drain(..later.min(o));
+            (i.start, i.other_start) = (i.start - later, i.other_start - later);
+        }));
     }
     with(Box::new(|i| i.start = 0));
     with(Box::new(|i| i.start = i.start.saturating_sub(1)));

@@ -53,6 +53,10 @@ enum Fault {
     LastOverTheLimit,
     NotFolded,
     UnfoldedMeasured,
+    FirstLoopOnly,
+    OneRoundOfEach,
+    UndrivenCompared,
+    CountsFirst,
 }
 
 impl Faulty {
@@ -236,6 +240,28 @@ impl Library for Faulty {
         }
         number
     }
+
+    fn compare(&self, first: Recording, second: Recording, same: &mut bool, moment: &mut usize, place: &mut usize) -> u32 {
+        if self.fault == Fault::CountsFirst && first.driven <= 32 && first.driven != second.driven {
+            (*same, *moment, *place) = (false, 0, 0);
+            return 27;
+        }
+        let number = self.right.compare(first, second, same, moment, place);
+        let (p, q) = (first.len().wrapping_sub(first.start), second.len().wrapping_sub(second.start));
+        let looked_at = match self.fault {
+            // as many moments as the first has recorded, or as both go round once from where both loops have begun
+            Fault::FirstLoopOnly => first.len(),
+            Fault::OneRoundOfEach if number == 0 => first.start.max(second.start) + p.max(q),
+            _ => usize::MAX,
+        };
+        if number == 0 && !*same && *moment >= looked_at {
+            (*same, *moment) = (true, 0);
+        }
+        if self.fault == Fault::UndrivenCompared && number == 0 && *same && first.samples[0] != second.samples[0] {
+            *same = false;
+        }
+        number
+    }
 }
 
 /// The smallest input that shows a fault, from the first random input that does.
@@ -277,6 +303,10 @@ fn faults_are_found_and_made_small() {
         Fault::LastOverTheLimit,
         Fault::NotFolded,
         Fault::UnfoldedMeasured,
+        Fault::FirstLoopOnly,
+        Fault::OneRoundOfEach,
+        Fault::UndrivenCompared,
+        Fault::CountsFirst,
     ] {
         let smallest = found(fault);
         // three words and the header
@@ -285,7 +315,10 @@ fn faults_are_found_and_made_small() {
         let of_header = matches!(fault, Fault::CountBeforeLimit | Fault::ClassUnread | Fault::KindUnread);
         let right = smallest.table.is_empty() || smallest.table == headed(words(&smallest.table));
         assert!(of_header != right, "{smallest}");
-        assert!(smallest.samples.len() <= 1, "{smallest}");
+        // two loops of which neither is in step with the other need more
+        let loops = matches!(fault, Fault::FirstLoopOnly | Fault::OneRoundOfEach);
+        assert!(smallest.samples.len() <= if loops { 4 } else { 1 }, "{smallest}");
+        assert!(smallest.others.len() <= if loops { 4 } else { 1 }, "{smallest}");
         assert!(smallest.text.len() <= 2, "{smallest}");
     }
 }

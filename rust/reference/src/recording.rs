@@ -34,6 +34,23 @@ impl Recording<'_> {
         std::iter::successors(Some(i), |&k| Some(self.after(k))).take(different)
     }
 
+    /// The recorded moment of each moment from 0 on.
+    pub fn for_ever(&self) -> impl Iterator<Item = usize> + '_ {
+        std::iter::successors(Some(0), |&k| Some(self.after(k)))
+    }
+
+    /// So many moments until this recording and another are both in their loops, and then until both begin them anew at once.
+    pub fn together(&self, other: &Recording) -> usize {
+        let (p, q) = (self.len() - self.start, other.len() - other.start);
+        let again = (1..=q).map(|times| times * p).find(|moments| moments.is_multiple_of(q)).expect("q times p");
+        self.start.max(other.start) + again
+    }
+
+    /// Whether recorded moment i has the same driven letters as moment j of another recording that drives as many.
+    pub fn alike(&self, i: usize, other: &Recording, j: usize) -> bool {
+        self.samples[i] == other.samples[j] || (1..=self.driven).all(|n| self.letter(n, i) == other.letter(n, j))
+    }
+
     /// A letter that is driven; the bits of others are no reading.
     fn letter(&self, n: usize, i: usize) -> bool {
         assert!((1..=self.driven).contains(&n), "letter {n} is not driven");

@@ -180,6 +180,19 @@ pub fn judge(
     })
 }
 
+/// The first moment at which two recordings, read on for ever, differ in a driven bit (document 02, N10): both are walked until the loops
+/// stand as they did when both were first in them.
+pub fn compare(first: Recording, second: Recording) -> Result<Option<usize>, Refusal> {
+    for recording in [first, second] {
+        Faults::default().recording(recording.len(), recording.start, recording.driven).first()?;
+    }
+    if first.driven != second.driven {
+        return Err(Refusal { number: 27, place: 0 });
+    }
+    let walk = first.for_ever().zip(second.for_ever());
+    Ok(walk.take(first.together(&second)).position(|(i, j)| !first.alike(i, &second, j)))
+}
+
 /// The row call: which part of the scratch is the rule's own row.
 pub fn row(table: &[u32], recording: Recording, scratch: &mut [u64]) -> Result<Range<usize>, Refusal> {
     row_faults(table, recording, scratch).first()?;

@@ -4,7 +4,7 @@ use reference::checks::Refusal;
 use reference::edges::{chain_of, chain_of_next, headed};
 use reference::limits::Limits;
 use reference::recording::Recording;
-use reference::steps::{check, classify, dialect, form, judge, normal, plain, row, text, Tally};
+use reference::steps::{check, classify, compare, dialect, form, judge, normal, plain, row, text, Tally};
 
 /// The table of a text, or its refusal's number and place, with so much room.
 fn read(typed: &str, room: usize) -> Result<Vec<u32>, (u32, usize)> {
@@ -367,4 +367,42 @@ fn tallies_show_the_history_and_make_the_total() {
     let total = |part: fn(&Tally) -> u32| tallies.iter().map(part).sum::<u32>();
     assert_eq!(Tally { judged: total(|tally| tally.judged), held: total(|tally| tally.held) }, count(&|_| true));
     assert!(history.iter().any(|entry| entry.1.is_err()) && total(|tally| tally.held) > 0);
+}
+
+/// N10: number and place, or the first moment that differs.
+fn compared(first: (&[u32], usize, usize), second: (&[u32], usize, usize)) -> Result<Option<usize>, (u32, usize)> {
+    let of = |(samples, start, driven)| Recording { samples, start, driven };
+    compare(of(first), of(second)).map_err(|refusal| (refusal.number, refusal.place))
+}
+
+#[test]
+fn recordings_of_one_show() {
+    // 0 1 0 1 .. in loops of two, four and six, entered at once and later
+    for second in [(&[0, 1][..], 0), (&[0, 1, 0], 1), (&[0, 1, 0, 1], 0), (&[0, 1, 0, 1, 0, 1, 0], 1)] {
+        assert_eq!(compared((&[0, 1], 0, 3), (second.0, second.1, 3)), Ok(None));
+    }
+    // a loop of three is out of step at moment 2, and one of 0 1 0 1 1 at moment 4
+    assert_eq!(compared((&[0, 1], 0, 3), (&[0, 1, 1], 0, 3)), Ok(Some(2)));
+    assert_eq!(compared((&[0, 1], 0, 3), (&[0, 1, 0, 1, 1], 0, 3)), Ok(Some(4)));
+    // three times the same, and then the loops of three and of four part
+    assert_eq!(compared((&[0, 0, 1], 0, 1), (&[0, 0, 1, 0], 0, 1)), Ok(Some(5)));
+    // bits that nothing drives are no reading
+    assert_eq!(compared((&[0, 1], 0, 0), (&[2, 3, 1], 1, 0)), Ok(None));
+    assert_eq!(compared((&[0, 1], 0, 1), (&[2, 3], 0, 1)), Ok(None));
+    assert_eq!(compared((&[0, 1], 0, 2), (&[2, 3], 0, 2)), Ok(Some(0)));
+    assert_eq!(compared((&[0], 0, 32), (&[0, 1 << 31], 0, 32)), Ok(Some(1)));
+}
+
+#[test]
+fn recordings_are_checked_one_after_the_other() {
+    let (sound, long): ((&[u32], usize, usize), _) = ((&[0, 1], 1, 2), [0; 4_097]);
+    let faulty: [((&[u32], usize, usize), u32); 4] =
+        [((&[], 0, 33), 13), ((&long, 4_097, 33), 14), ((&[0, 1], 2, 33), 15), ((&[0, 1], 1, 33), 22)];
+    for (recording, number) in faulty {
+        assert_eq!(compared(recording, sound), Err((number, 0)));
+        assert_eq!(compared(sound, recording), Err((number, 0)));
+        assert!(faulty.iter().all(|(other, _)| compared(recording, *other) == Err((number, 0))));
+    }
+    assert_eq!(compared(sound, (&[0], 0, 1)), Err((27, 0)));
+    assert_eq!(compared(sound, (&[0], 1, 1)), Err((15, 0)));
 }

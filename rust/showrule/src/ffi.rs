@@ -94,4 +94,18 @@ extern "C" {
         row_words: *mut usize,
         place: *mut usize,
     ) -> u32;
+
+    pub fn showrule_compare(
+        samples: *const u32,
+        count: usize,
+        start: usize,
+        driven: usize,
+        others: *const u32,
+        other_count: usize,
+        other_start: usize,
+        other_driven: usize,
+        same: *mut bool,
+        moment: *mut usize,
+        place: *mut usize,
+    ) -> u32;
 }

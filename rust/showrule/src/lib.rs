@@ -374,6 +374,56 @@ pub fn row<'a>(table: &[u32], recording: Recording, scratch: &'a mut [u64]) -> R
     Ok(&mut scratch[from..from + row_words])
 }
 
+/// Whether two recordings, read on for ever, have the same driven bits at every moment.
+#[derive(Clone, Copy, PartialEq, Eq, Debug)]
+pub enum Comparison {
+    /// They have: every rule of driven letters holds at moment 0 of both, or of neither.
+    Same,
+    /// They differ, at this moment first: a driven letter under that many X holds at moment 0 of one of them alone.
+    DifferAt(usize),
+}
+
+/// Compares two recordings of one show, of any lengths and loop starts, on the letters that both drive. The checks of the first come first,
+/// then those of the second, and recordings that drive different numbers of letters are refused last.
+///
+/// ```
+/// use showrule::{compare, Comparison, Recording};
+/// // letter 1 by turns, and the same recorded for a moment longer, with another bit that nothing drives
+/// let one = Recording { samples: &[1, 0], start: 0, driven: 1 };
+/// let other = Recording { samples: &[1, 2, 1], start: 1, driven: 1 };
+/// assert_eq!(compare(one, other)?, Comparison::Same);
+/// // moment 3 has the sample of moment 2
+/// let late = Recording { start: 2, ..other };
+/// assert_eq!(compare(one, late)?, Comparison::DifferAt(3));
+/// let refusal = compare(one, Recording { driven: 2, ..late }).unwrap_err();
+/// assert_eq!(refusal.to_string(), "the first recording drives 1 of the letters, and the second 2: compare those that both drive");
+/// # Ok::<(), showrule::Refusal>(())
+/// ```
+pub fn compare(first: Recording, second: Recording) -> Result<Comparison, Refusal> {
+    let (mut same, mut moment, mut place) = (false, 0, 0);
+    let number = unsafe {
+        ffi::showrule_compare(
+            first.samples.as_ptr(),
+            first.samples.len(),
+            first.start,
+            first.driven,
+            second.samples.as_ptr(),
+            second.samples.len(),
+            second.start,
+            second.driven,
+            &mut same,
+            &mut moment,
+            &mut place,
+        )
+    };
+    // a refusal speaks of the first recording, unless nothing is wrong with it
+    let sound = (1..=MOST_SAMPLES).contains(&first.samples.len()) && first.start < first.samples.len();
+    let Recording { samples, start, driven } = if sound && first.driven <= MOST_DRIVEN { second } else { first };
+    let call = Call { samples: samples.len(), start, driven, other_driven: first.driven, ..Call::default() };
+    call.answer(number, place)?;
+    Ok(if same { Comparison::Same } else { Comparison::DifferAt(moment) })
+}
+
 /// What both calls were handed.
 fn judging<'a>(table: &'a [u32], recording: Recording, scratch: &[u64]) -> Call<'a> {
     let Recording { samples, start, driven } = recording;

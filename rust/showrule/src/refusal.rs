@@ -124,6 +124,11 @@ pub enum Refusal {
         desk: usize,
         desks: usize,
     },
+    /// Two recordings that are compared drive different numbers of letters.
+    DrivenCountsDiffer {
+        first: usize,
+        second: usize,
+    },
     /// A number that this crate does not know.
     Other {
         number: u32,
@@ -144,6 +149,7 @@ pub(crate) struct Call<'a> {
     pub driven: usize,
     pub desks: usize,
     pub desk: usize,
+    pub other_driven: usize,
     pub tally: Tally,
     pub of_plain_form: bool,
 }
@@ -193,6 +199,7 @@ impl Call<'_> {
             24 => Refusal::WrongHeader { kind, class: left, written: words.iter().any(|word| word >> 28 >= 12) },
             25 => Refusal::LimitsOutside { limits: self.limits },
             26 => Refusal::DeskOutside { desk: self.desk, desks: self.desks },
+            27 => Refusal::DrivenCountsDiffer { first: self.other_driven, second: self.driven },
             _ => Refusal::Other { number, place },
         }
     }
@@ -227,6 +234,7 @@ impl Refusal {
             Refusal::WrongHeader { .. } => 24,
             Refusal::LimitsOutside { .. } => 25,
             Refusal::DeskOutside { .. } => 26,
+            Refusal::DrivenCountsDiffer { .. } => 27,
             Refusal::Other { number, .. } => number,
         }
     }
@@ -354,6 +362,12 @@ impl fmt::Display for Refusal {
             Refusal::DeskOutside { desk, desks: 0 } => write!(f, "desk {desk} has no tally: none is lent"),
             Refusal::DeskOutside { desk, desks } => {
                 write!(f, "desk {desk} has no tally: those of desks 0 to {} are lent", desks - 1)
+            }
+            Refusal::DrivenCountsDiffer { first, second } => {
+                write!(
+                    f,
+                    "the first recording drives {first} of the letters, and the second {second}: compare those that both drive"
+                )
             }
             Refusal::Other { number, place } => write!(f, "refused {number} at {place}"),
         }

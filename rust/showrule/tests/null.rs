@@ -61,5 +61,8 @@ fn empty_slices() {
         assert_eq!((number, holds, moments, failing, place), (26, false, 0, 0, 0));
         let number = showrule_row(letter.as_ptr(), 2, [1].as_ptr(), 1, 0, 1, null_mut(), 0, &mut from, &mut words, &mut place);
         assert_eq!((number, from, words), (16, 0, 0));
+        let (mut same, mut moment) = (true, 9);
+        let number = showrule_compare([1].as_ptr(), 1, 0, 1, null(), 0, 0, 1, &mut same, &mut moment, &mut place);
+        assert_eq!((number, same, moment, place), (13, false, 0, 0));
     }
 }

@@ -1,6 +1,7 @@
 //! Every refusal of a table, a form and a recording: its number, its place and its sentence.
 use showrule::{
-    check, classify, dialect, form, from_text, judge, normal_form, plain_form, row, Limits, Recording, Refusal, Rule, Tally,
+    check, classify, compare, dialect, form, from_text, judge, normal_form, plain_form, row, Limits, Recording, Refusal, Rule,
+    Tally,
 };
 
 fn is<T: std::fmt::Debug>(answer: Result<T, Refusal>, number: u32, place: usize, sentence: &str) {
@@ -173,4 +174,27 @@ fn driven_letters() {
     is(judge(&or, 33), 22, 0, "the recording says that it drives 33 letters, and there are 32");
     assert!(judge(&or, 5).unwrap().holds);
     assert!(judge(&[0x001F_C001, 0x2000_0000], 0).unwrap().holds);
+}
+
+#[test]
+fn two_recordings() {
+    let driving = |samples, start, driven| Recording { samples, start, driven };
+    let (sound, long) = (one(&[0, 1], 1), [0; 4097]);
+    let faulty = [
+        (one(&[], 0), 13, "the recording has no sample"),
+        (one(&long, 0), 14, "the recording has 4097 samples, and at most 4096 are judged"),
+        (one(&[0; 3], 3), 15, "the loop starts at moment 3, and the recording's moments are 0 to 2"),
+        (driving(&[0], 0, 33), 22, "the recording says that it drives 33 letters, and there are 32"),
+    ];
+    for (first, number, sentence) in faulty {
+        is(compare(first, sound), number, 0, sentence);
+        is(compare(sound, first), number, 0, sentence);
+        // those of the first recording come first
+        for (second, ..) in faulty {
+            is(compare(first, second), number, 0, sentence);
+        }
+    }
+    let counts = "the first recording drives 1 of the letters, and the second 2: compare those that both drive";
+    is(compare(sound, driving(&[0], 0, 2)), 27, 0, counts);
+    is(compare(sound, driving(&[0], 1, 2)), 15, 0, "the loop starts at moment 1, and the recording's moments are 0 to 0");
 }

@@ -2,14 +2,15 @@
 use Prim.Native.Nat.{ℕ, suc, _+_, _-_, _%_, _≤_, _<_}
 use mathlib.Core.Path.{_≡_, refl, sym, ap, ap₂, _∙_}
 use mathlib.Core.Bool.{Bool, true, false, cond, Bool·beq}
+use mathlib.Core.List.{List}
 use native.Mathlib.Nat.{suc-add, mod-eq-of-lt, mod-lt, add-mod-right}
 use native.Mathlib.Omega.{arith}
-use native.Mathlib.Decide.{decLt}
+use native.Mathlib.Decide.{decLt, decLe}
 use lib.ListN.{length, getD}
 use lib.Dec.{ltb}
 use borrow.Author.Tests.{ltb-true, lt-ltb}
 use Rattle.logic.specs.Formula.{Formula, const, lit, un, bin}
-use Rattle.logic.specs.Lasso.{Lasso, letterIn, place, word}
+use Rattle.logic.specs.Lasso.{Lasso, letterIn, place, word, lassoBy, lassoOf}
 use Rattle.logic.specs.Truth.{Sequence, Operation, each, shifted, fixpoint, unaryOperation, binaryOperation, across, applied, truth}
 use Rattle.logic.proofs.Lasso.Sequence.{Periodic, periodic-mod, sweep-shift}
 
@@ -19,6 +20,28 @@ size r = length (r .samples)
 
 abbrev pub period : Lasso → ℕ
 period r = size r - r .start
+
+-- samples, a loop start that is inside and a driven count of at most 32 are a lasso
+abbrev pub Inside : List ℕ → ℕ → ℕ → Type 0
+Inside samples start driven =
+    (h : start < length samples) × (k : driven ≤ 32)
+    × (lassoOf samples start driven ≡ record { samples = samples; start = start; driven = driven; inside = h; few = k })
+
+pub lasso-inside : (samples : List ℕ) (start driven : ℕ) → start < length samples → driven ≤ 32 → Inside samples start driven
+unfolding lassoOf
+lasso-inside samples start driven h k = by (decLt start (length samples)) (decLe driven 32)
+  where
+    by : (d : Dec (start < length samples)) (e : Dec (driven ≤ 32))
+        → (i : start < length samples) × (j : driven ≤ 32)
+        × (lassoBy samples start driven d e ≡ record { samples = samples; start = start; driven = driven; inside = i; few = j })
+    by (yes i) (yes j) = (i, j, refl)
+    by (yes i) (no j) = absurd (j k)
+    by (no i) e = absurd (i h)
+
+pub lasso-word : (samples : List ℕ) (start driven : ℕ) → start < length samples → driven ≤ 32
+    → (i : ℕ) → word (lassoOf samples start driven) i ≡ getD samples (place (length samples) start i) 0
+unfolding word
+lasso-word samples start driven h k i = ap (λ (r : Lasso). word r i) (lasso-inside samples start driven h k .2)
 
 -- below L a position is its own place
 pub place-below : (L s i : ℕ) → i < L → place L s i ≡ i

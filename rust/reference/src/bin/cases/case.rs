@@ -20,6 +20,7 @@ pub enum Step {
     Row,
     Text,
     Dialect,
+    Compare,
 }
 
 #[derive(Clone)]
@@ -27,14 +28,14 @@ pub struct Case {
     pub label: String,
     pub step: Step,
     /// The words of the table: those of a chain (letter 1, then X of the word before), then listed ones, then one of all replaced. Of a
-    /// text its bytes are listed.
+    /// text its bytes are listed, and of a comparison the first recording's samples.
     pub chain: usize,
     pub listed: Vec<u32>,
     pub replaced: Option<(usize, u32)>,
     pub header: Header,
     /// Of the house.
     pub limits: Limits,
-    /// Rooms of the lent slices.
+    /// Rooms of the lent slices; of a comparison the first recording's loop start and driven count.
     pub room: usize,
     pub second: usize,
     pub plain: bool,
@@ -74,7 +75,7 @@ impl Case {
             chain: 0,
             listed: words.to_vec(),
             replaced: None,
-            header: Header::Theirs,
+            header: if step == Step::Compare { Header::None } else { Header::Theirs },
             limits: Limits::DESK,
             room,
             second: 0,
@@ -211,6 +212,13 @@ impl Case {
                 let said = answer(&part);
                 let part = part.unwrap_or(0..0);
                 format!("{said}, {}, {}{}", part.start, part.len(), rows(&scratch))
+            }
+            Step::Compare => {
+                let samples = self.samples();
+                let first = Recording { samples: &table, start: self.room, driven: self.second };
+                let compared = steps::compare(first, self.recording(&samples));
+                let same = if compared == Ok(None) { "same" } else { "not the same" };
+                format!("{}, {same}, {}", answer(&compared), compared.ok().flatten().unwrap_or(0))
             }
         }
     }

@@ -3,6 +3,7 @@
 //!     cases FOLDER        as: cargo run --release --offline -p reference --bin cases ../crates/cases
 //!     cases FOLDER list   prints the label of each case, a line for each line of stdout
 mod case;
+mod comparing;
 mod dialect;
 mod folding;
 mod forms;
@@ -19,8 +20,8 @@ fn main() {
     let folder = env::args().nth(1).expect("usage: cases FOLDER");
     let folder = Path::new(&folder);
     let forms = [forms::cases(), folding::cases()].concat();
-    let cases: Vec<Case> =
-        [tables::cases(), headers::cases(), forms, judging::cases(), texts::cases(), dialect::cases(), limits::cases()].concat();
+    let rules = [tables::cases(), headers::cases(), forms, judging::cases(), texts::cases(), dialect::cases()];
+    let cases: Vec<Case> = [rules.concat(), limits::cases(), comparing::cases()].concat();
     if env::args().nth(2).is_some() {
         cases.iter().for_each(|case| println!("{}", case.label));
         return;

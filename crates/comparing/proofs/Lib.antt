@@ -1,0 +1,2 @@
+-- Samples under a mask of the driven bits.
+pub mod Masked
