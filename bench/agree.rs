@@ -1,19 +1,31 @@
 // Replies and slices of the library compared with those of the programs written for clarity, before anything is timed: on the rules of
 // source 000, on tables that are damaged in one place or two, and on tables full of constants, with slices that are too short among the
 // rest.
-use crate::hashmap::Refused;
+use crate::hashmap::{Form, Refused};
 use crate::rules::{headed, word, Rule};
-use crate::shapes::{mixed, recording, with_constants, Numbers, FREE, PLAIN, WRITTEN};
+use crate::shapes::{alternating, mixed, recording, with_constants, Numbers, FREE, PLAIN, WRITTEN};
 use crate::{hashmap, library, moments, typed};
 use std::collections::BTreeMap;
 use std::fmt::Debug;
 
-// How often each reply was seen: 0 for an accepted call, or the refusal's number.
-pub type Seen = BTreeMap<u32, usize>;
+// How often each reply was seen, 0 for an accepted call, or the refusal's number; and of the accepted normal forms, how many were the source
+// table, and how many were rewritten.
+#[derive(Default)]
+pub struct Seen {
+    pub replies: BTreeMap<u32, usize>,
+    pub handed_back: usize,
+    pub rewritten: usize,
+}
 
 fn same<T: PartialEq + Debug>(seen: &mut Seen, ours: Result<T, Refused>, theirs: Result<T, Refused>) {
     assert_eq!(ours, theirs, "both sides reply alike");
-    *seen.entry(ours.err().map_or(0, |refused| refused.0)).or_default() += 1;
+    *seen.replies.entry(ours.err().map_or(0, |refused| refused.0)).or_default() += 1;
+}
+
+fn same_form(seen: &mut Seen, ours: Result<Form, Refused>, theirs: Result<Form, Refused>) {
+    seen.handed_back += matches!(ours, Ok(Form::Source(_))) as usize;
+    seen.rewritten += matches!(ours, Ok(Form::Result(_))) as usize;
+    same(seen, ours, theirs);
 }
 
 // A table with some words changed, repeated or left out, under a header that counts them, mostly that of the words; at times the header
@@ -81,11 +93,13 @@ fn forms(seen: &mut Seen, numbers: &mut Numbers, written: &[u32], plain: &[u32])
         return;
     }
     for room in [0, 1 + numbers.next(900), 16384, 20000] {
-        slices(seen, room, |s| library::normal_form(plain, s), |s| hashmap::normal_form(plain, s));
+        let (mut one, mut other) = (vec![7; room], vec![7; room]);
+        same_form(seen, library::normal_form(plain, &mut one), hashmap::normal_form(plain, &mut other));
+        assert!(one == other, "both sides leave the slice alike");
         let short = [0, 12, 131][numbers.next(3)];
         let (mut one, mut other) = (vec![7; short], vec![7; short]);
         let (mut form, mut form2) = (vec![7; room], vec![7; room]);
-        same(seen, library::rule_form(written, &mut one, &mut form), hashmap::rule_form(written, &mut other, &mut form2));
+        same_form(seen, library::rule_form(written, &mut one, &mut form), hashmap::rule_form(written, &mut other, &mut form2));
         assert!((one, form) == (other, form2), "both sides leave both slices alike");
     }
 }
@@ -129,7 +143,7 @@ fn texts(seen: &mut Seen, numbers: &mut Numbers) {
 }
 
 pub fn all(rules: &[Rule]) -> Seen {
-    let (mut seen, mut numbers) = (Seen::new(), Numbers(3));
+    let (mut seen, mut numbers) = (Seen::default(), Numbers(3));
     for rule in rules {
         let mut plain = vec![0; 131];
         let n = hashmap::plain_form(&rule.table, &mut plain).expect("a plain form");
@@ -146,6 +160,7 @@ pub fn all(rules: &[Rule]) -> Seen {
         let (n, m) = (5 + numbers.next(10), 5 + numbers.next(10));
         let (written, plain) = (with_constants(&mut numbers, n, &WRITTEN), with_constants(&mut numbers, m, &PLAIN));
         forms(&mut seen, &mut numbers, &written, &plain);
+        forms(&mut seen, &mut numbers, &alternating(&written), &alternating(&plain));
     }
     seen
 }

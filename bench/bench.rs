@@ -10,6 +10,7 @@ mod stack;
 mod timing;
 mod typed;
 
+use hashmap::Form;
 use library::Recording;
 use rules::Rule;
 use shapes::{mixed, noise, over_letters, recording, FREE, PLAIN, WRITTEN};
@@ -25,7 +26,7 @@ fn main() {
     let asked: Vec<String> = std::env::args().skip(1).collect();
     let rules = || rules::read(include_str!("rules.txt"));
     let sections: [(&str, &str, &dyn Fn()); 8] = [
-        ("same", "the same replies and slices", &|| println!("calls by their reply, 0 for accepted: {:?}", agree::all(&rules()))),
+        ("same", "the same replies and slices", &|| same(&rules())),
         ("check", "check and plain form, beside the hash-map program", &short_steps),
         ("text", "reading texts, beside the hash-map program", &texts),
         ("form", "whole way and normal form, beside the hash-map program", &|| forms(rules())),
@@ -40,6 +41,12 @@ fn main() {
             print();
         }
     }
+}
+
+fn same(rules: &[Rule]) {
+    let seen = agree::all(rules);
+    println!("calls by their reply, 0 for accepted: {:?}", seen.replies);
+    println!("normal forms that were the source table {}, rewritten {}", seen.handed_back, seen.rewritten);
 }
 
 fn short_steps() {
@@ -97,28 +104,42 @@ fn texts() {
     }
 }
 
-// The rules that both steps accept.
-fn accepted(rules: Vec<Rule>) -> Vec<Rule> {
+// The rules that both steps accept, each with whether its plain form is its form.
+fn accepted(rules: Vec<Rule>) -> Vec<(Rule, bool)> {
     let (mut plain, mut form) = (vec![0; PLAIN_ROOM], vec![0; FORM_ROOM]);
     let (mut lengths, mut refused, mut kept) = (Vec::new(), Vec::new(), Vec::new());
     let all = rules.len();
     for rule in rules {
         match hashmap::rule_form(&rule.table, &mut plain, &mut form) {
-            Ok(n) => {
-                lengths.push(n - 1);
-                kept.push(rule);
+            Ok(form) => {
+                let own = matches!(form, Form::Source(_));
+                if !own {
+                    lengths.push(form.length() - 1);
+                }
+                kept.push((rule, own));
             }
             Err((number, place)) => refused.push(format!("{} ({number} at {place})", rule.name)),
         }
     }
     lengths.sort();
     println!("rules of source 000 with negations: {all}, accepted by both steps: {}", kept.len());
-    println!("  refused: {}", refused.join(", "));
-    println!("  words of the forms: {} to {}, median {}", lengths[0], lengths[lengths.len() - 1], lengths[lengths.len() / 2]);
+    println!("  refused: {}", if refused.is_empty() { "none".to_string() } else { refused.join(", ") });
+    println!("  in Delta-2, their own forms: {}", kept.iter().filter(|(_, own)| *own).count());
+    println!(
+        "  rewritten: {}, words of the forms: {} to {}, median {}",
+        lengths.len(), lengths[0], lengths[lengths.len() - 1], lengths[lengths.len() / 2]
+    );
     kept
 }
 
-fn whole_way(rules: &[Rule]) {
+// The rules that are handed back, and those that are rewritten.
+fn whole_way(rules: &[(Rule, bool)]) {
+    for (what, wanted) in [("its own form", true), ("rewritten", false)] {
+        whole_ways(what, rules.iter().filter(|(_, own)| *own == wanted).map(|(rule, _)| rule));
+    }
+}
+
+fn whole_ways<'a>(what: &str, rules: impl Iterator<Item = &'a Rule>) {
     let (mut plain, mut form) = (vec![0; PLAIN_ROOM], vec![0; FORM_ROOM]);
     let (mut plain2, mut form2) = (plain.clone(), form.clone());
     let mut times = Vec::new();
@@ -131,13 +152,13 @@ fn whole_way(rules: &[Rule]) {
     times.sort_by(|x, y| x.1.total_cmp(&y.1));
     for (which, at) in [("shortest", 0), ("median", times.len() / 2), ("longest", times.len() - 1)] {
         let (o, t, name) = times[at];
-        println!("whole way, {which} rule ({name}): hash map {:.2} us, here {:.2} us, ratio {:.2}", t / 1e3, o / 1e3, o / t);
+        println!("whole way, {what}, {which} rule ({name}): hash map {:.2} us, here {:.2} us, ratio {:.2}", t / 1e3, o / 1e3, o / t);
     }
     let slower = times.iter().filter(|(o, t, _)| t < o).count();
     let worst = times.iter().max_by(|x, y| (x.0 / x.1).total_cmp(&(y.0 / y.1))).unwrap();
     let (o, t) = times.iter().fold((0.0, 0.0), |sum, time| (sum.0 + time.0, sum.1 + time.1));
     println!(
-        "whole way, all {}: slower on {slower}, worst ratio {:.2} ({}), ratio of sums {:.2}",
+        "whole way, {what}, all {}: slower on {slower}, worst ratio {:.2} ({}), ratio of sums {:.2}",
         times.len(), worst.0 / worst.1, worst.2, o / t
     );
 }
@@ -147,15 +168,19 @@ fn normal_forms() {
     for (name, table) in nested.chain(shapes::eight_until_like()) {
         let fixpoints = table.iter().filter(|&w| (8..=11).contains(&(w >> 28))).count();
         let (mut form, mut form2) = (vec![0; FORM_ROOM], vec![0; FORM_ROOM]);
-        let length = library::normal_form(&table, &mut form);
-        assert_eq!(length, hashmap::normal_form(&table, &mut form2));
-        assert!(form == form2, "the forms are the same");
+        let made = library::normal_form(&table, &mut form);
+        assert_eq!(made, hashmap::normal_form(&table, &mut form2));
+        assert!(form == form2, "the slices are the same");
+        let to = match made.expect("it fits") {
+            Form::Source(_) => "itself, in Delta-2".to_string(),
+            Form::Result(length) => (length - 1).to_string(),
+        };
         let ours = || library::normal_form(black_box(&table), &mut form);
         let theirs = || hashmap::normal_form(black_box(&table), &mut form2);
         let (o, t) = pair(ours, theirs);
         println!(
-            "normal form, {fixpoints} until-like words, {name}, {} words to {}: hash map {:.1} us, here {:.1} us, ratio {:.2}",
-            table.len() - 1, length.expect("it fits") - 1, t / 1e3, o / 1e3, o / t
+            "normal form, {fixpoints} until-like words, {name}, {} words to {to}: hash map {:.1} us, here {:.1} us, ratio {:.2}",
+            table.len() - 1, t / 1e3, o / 1e3, o / t
         );
     }
 }

@@ -9,7 +9,12 @@ mod timing;
 use std::hint::black_box;
 
 extern "C" {
-    #[cfg(limits)]
+    #[cfg(sources)]
+    fn before_showrule_normal(
+        table: *const u32, words: usize, written: usize, until_like: usize, result: *mut u32, room: usize, in_source: *mut bool,
+        form: *mut usize, place: *mut usize,
+    ) -> u32;
+    #[cfg(all(limits, not(sources)))]
     fn before_showrule_normal(
         table: *const u32, words: usize, written: usize, until_like: usize, result: *mut u32, room: usize, form: *mut usize,
         place: *mut usize,
@@ -19,27 +24,36 @@ extern "C" {
         table: *const u32, words: usize, result: *mut u32, room: usize, form: *mut usize, place: *mut usize,
     ) -> u32;
     fn showrule_normal(
-        table: *const u32, words: usize, written: usize, until_like: usize, result: *mut u32, room: usize, form: *mut usize,
-        place: *mut usize,
+        table: *const u32, words: usize, written: usize, until_like: usize, result: *mut u32, room: usize, in_source: *mut bool,
+        form: *mut usize, place: *mut usize,
     ) -> u32;
 }
 
 // The refusal's number and place, and the number of words.
 type Reply = (u32, usize, usize);
 
+// No rule here is its own form.
 fn after(table: &[u32], result: &mut [u32]) -> Reply {
-    let (mut form, mut place) = (0, 0);
-    let number =
-        unsafe { showrule_normal(table.as_ptr(), table.len(), 64, 8, result.as_mut_ptr(), result.len(), &mut form, &mut place) };
+    let (mut in_source, mut form, mut place) = (true, 0, 0);
+    let (t, r) = (table.as_ptr(), result.as_mut_ptr());
+    let number = unsafe { showrule_normal(t, table.len(), 64, 8, r, result.len(), &mut in_source, &mut form, &mut place) };
+    assert!(!in_source);
     (number, place, form)
 }
 
-#[cfg(limits)]
+#[cfg(sources)]
+fn before(table: &[u32], result: &mut [u32]) -> Reply {
+    let (mut in_source, mut form, mut place) = (true, 0, 0);
+    let (t, r) = (table.as_ptr(), result.as_mut_ptr());
+    let number = unsafe { before_showrule_normal(t, table.len(), 64, 8, r, result.len(), &mut in_source, &mut form, &mut place) };
+    (number, place, form)
+}
+
+#[cfg(all(limits, not(sources)))]
 fn before(table: &[u32], result: &mut [u32]) -> Reply {
     let (mut form, mut place) = (0, 0);
-    let number = unsafe {
-        before_showrule_normal(table.as_ptr(), table.len(), 64, 8, result.as_mut_ptr(), result.len(), &mut form, &mut place)
-    };
+    let (t, r) = (table.as_ptr(), result.as_mut_ptr());
+    let number = unsafe { before_showrule_normal(t, table.len(), 64, 8, r, result.len(), &mut form, &mut place) };
     (number, place, form)
 }
 

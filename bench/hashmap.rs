@@ -5,6 +5,21 @@ use std::collections::HashMap;
 // A refusal's number and place.
 pub type Refused = (u32, usize);
 
+// Where a normal form stands, and its length: the source table itself, or the front of the result.
+#[derive(Clone, Copy, PartialEq, Debug)]
+pub enum Form {
+    Source(usize),
+    Result(usize),
+}
+
+impl Form {
+    pub fn length(self) -> usize {
+        match self {
+            Form::Source(length) | Form::Result(length) => length,
+        }
+    }
+}
+
 const FALSE: u32 = 1;
 const TRUE: u32 = 2;
 const AND: u32 = 5;
@@ -250,8 +265,12 @@ fn dual(kind: u32) -> u32 {
     }
 }
 
-pub fn normal_form(table: &[u32], result: &mut [u32]) -> Result<usize, Refused> {
+// A table in Delta-2 is its own form; any other is rewritten.
+pub fn normal_form(table: &[u32], result: &mut [u32]) -> Result<Form, Refused> {
     let words = check(table, true, 130)?;
+    if is_delta_2(words) {
+        return Ok(Form::Source(table.len()));
+    }
     let until_like: Vec<usize> = (1..=words.len()).filter(|j| (U..=M).contains(&kind(words[j - 1]))).collect();
     if let Some(&ninth) = until_like.get(8) {
         return Err((11, ninth));
@@ -262,7 +281,12 @@ pub fn normal_form(table: &[u32], result: &mut [u32]) -> Result<usize, Refused> 
     }
     let mut normal = NormalForm { words, until_like, weight, out: Draft::new(), choice: 0, memo: Vec::new() };
     let form = normal.parts();
-    hand_over(normal.out.table(form, words_in(result.len())), result)
+    hand_over(normal.out.table(form, words_in(result.len())), result).map(Form::Result)
+}
+
+// Whether the last word's class byte has bit 6.
+pub fn is_delta_2(words: &[u32]) -> bool {
+    class_bytes(words)[words.len() - 1] >> 6 & 1 == 1
 }
 
 // The dialect without W and M: a W b is b R (a or b), and a M b is b U (a and b).
@@ -308,8 +332,8 @@ fn convert(words: &[u32], out: &mut Numbering) -> Result<(), Refused> {
     Ok(())
 }
 
-// The whole way, from a written table.
-pub fn rule_form(table: &[u32], plain: &mut [u32], result: &mut [u32]) -> Result<usize, Refused> {
+// The whole way, from a written table. The source of the form is the plain form.
+pub fn rule_form(table: &[u32], plain: &mut [u32], result: &mut [u32]) -> Result<Form, Refused> {
     let n = plain_form(table, plain)?;
     normal_form(&plain[..n], result)
 }

@@ -1,5 +1,5 @@
 // The proved library, called through its C names, under the program's limits. A refusal is its number and place.
-use crate::hashmap::Refused;
+use crate::hashmap::{Form, Refused};
 
 const WRITTEN: usize = 64;
 const UNTIL_LIKE: usize = 8;
@@ -20,12 +20,12 @@ extern "C" {
 #[cfg(forms)]
 extern "C" {
     fn showrule_normal(
-        table: *const u32, words: usize, written: usize, until_like: usize, result: *mut u32, room: usize, form: *mut usize,
-        place: *mut usize,
+        table: *const u32, words: usize, written: usize, until_like: usize, result: *mut u32, room: usize, in_source: *mut bool,
+        form: *mut usize, place: *mut usize,
     ) -> u32;
     fn showrule_form(
         table: *const u32, words: usize, written: usize, until_like: usize, plain: *mut u32, plain_room: usize, result: *mut u32,
-        room: usize, form: *mut usize, place: *mut usize,
+        room: usize, in_plain: *mut bool, form: *mut usize, place: *mut usize,
     ) -> u32;
 }
 
@@ -74,35 +74,41 @@ pub fn plain_form(table: &[u32], result: &mut [u32]) -> Result<usize, Refused> {
 }
 
 #[cfg(forms)]
-pub fn normal_form(table: &[u32], result: &mut [u32]) -> Result<usize, Refused> {
-    let (mut form, mut place) = (0, 0);
-    let number = unsafe {
-        showrule_normal(
-            table.as_ptr(), table.len(), WRITTEN, UNTIL_LIKE, result.as_mut_ptr(), result.len(), &mut form, &mut place,
-        )
-    };
-    reply(number, place, form)
+fn stands(in_source: bool, length: usize) -> Form {
+    if in_source { Form::Source(length) } else { Form::Result(length) }
 }
 
 #[cfg(forms)]
-pub fn rule_form(table: &[u32], plain: &mut [u32], result: &mut [u32]) -> Result<usize, Refused> {
-    let (mut form, mut place) = (0, 0);
+pub fn normal_form(table: &[u32], result: &mut [u32]) -> Result<Form, Refused> {
+    let (mut in_source, mut form, mut place) = (false, 0, 0);
+    let number = unsafe {
+        showrule_normal(
+            table.as_ptr(), table.len(), WRITTEN, UNTIL_LIKE, result.as_mut_ptr(), result.len(), &mut in_source, &mut form,
+            &mut place,
+        )
+    };
+    reply(number, place, stands(in_source, form))
+}
+
+#[cfg(forms)]
+pub fn rule_form(table: &[u32], plain: &mut [u32], result: &mut [u32]) -> Result<Form, Refused> {
+    let (mut in_plain, mut form, mut place) = (false, 0, 0);
     let number = unsafe {
         showrule_form(
             table.as_ptr(), table.len(), WRITTEN, UNTIL_LIKE, plain.as_mut_ptr(), plain.len(), result.as_mut_ptr(),
-            result.len(), &mut form, &mut place,
+            result.len(), &mut in_plain, &mut form, &mut place,
         )
     };
-    reply(number, place, form)
+    reply(number, place, stands(in_plain, form))
 }
 
 #[cfg(not(forms))]
-pub fn normal_form(_: &[u32], _: &mut [u32]) -> Result<usize, Refused> {
+pub fn normal_form(_: &[u32], _: &mut [u32]) -> Result<Form, Refused> {
     unreachable!("the library has no C name for the normal form")
 }
 
 #[cfg(not(forms))]
-pub fn rule_form(_: &[u32], _: &mut [u32], _: &mut [u32]) -> Result<usize, Refused> {
+pub fn rule_form(_: &[u32], _: &mut [u32], _: &mut [u32]) -> Result<Form, Refused> {
     unreachable!("the library has no C name for the whole way")
 }
 

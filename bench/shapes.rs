@@ -1,4 +1,5 @@
 // Tables, with their header, and recordings that the figures are measured on, the same in every run.
+use crate::hashmap::is_delta_2;
 use crate::rules;
 use crate::rules::{headed, word};
 
@@ -77,18 +78,28 @@ pub fn recording(n: usize) -> Vec<u32> {
     (0..n).map(|_| (numbers.next(8) != 0) as u32 | ((numbers.next(64) == 0) as u32) << 1).collect()
 }
 
-// Plain rules of eight until-like words, in rising size: nested, side by side, and chains of all operators.
-pub fn eight_until_like() -> Vec<(&'static str, Vec<u32>)> {
-    let pairs = ["(p1 U p2)", "(p3 W p4)", "(p5 R p6)", "(p7 M p8)", "(p9 U p10)", "(p11 W p12)", "(p13 R p14)", "(p15 M p16)"];
-    vec![
-        ("nested", nested(8)),
-        ("side by side", rules::table(&pairs.join(" & "))),
-        ("mixed chain", chain(48)),
-        ("mixed chain", chain(93)),
-    ]
+// A table with three more words, R, U and R over its last word and its third one, so that it lies outside Delta-2.
+pub fn alternating(table: &[u32]) -> Vec<u32> {
+    let last = table.len() - 1;
+    let more = [word(10, 3, last), word(8, 3, last + 1), word(10, 3, last + 2)];
+    headed([&table[1..], &more[..]].concat())
 }
 
-// So many until-like words, each with the one before it as its left operand.
+// Plain rules of eight until-like words, in rising size: nested, side by side, and chains of all operators. They have to lie outside Delta-2:
+// a rule of Delta-2 is its own form, and is handed back in the time of its checks.
+pub fn eight_until_like() -> Vec<(&'static str, Vec<u32>)> {
+    let pairs = ["((p1 W p2) U p3)", "((p4 U p5) W p6)", "((p7 M p8) R p9)", "((p10 R p11) M p12)"];
+    let rules = vec![
+        ("nested", nested(8)),
+        ("side by side", rules::table(&format!("X({})", pairs.join(" & ")))),
+        ("mixed chain", chain(48)),
+        ("mixed chain", chain(93)),
+    ];
+    assert!(rules.iter().all(|(_, table)| !is_delta_2(&table[1..])), "all are rewritten");
+    rules
+}
+
+// So many until-like words, each with the one before it as its left operand: from five on outside Delta-2.
 pub fn nested(fixpoints: usize) -> Vec<u32> {
     let over = |rule, i| format!("({rule}) {} p{}", ["U", "W", "R", "M"][i % 4], i + 1);
     rules::table(&(1..=fixpoints).fold("p1".to_string(), over))
@@ -115,12 +126,12 @@ fn chain(n: usize) -> Vec<u32> {
 }
 
 // A plain table of n words, each over the one before it, so that a step that goes down by calls goes as deep as it can: X words, and
-// from the top on so many W words.
+// from the top on so many words U and W by turns, from three on outside Delta-2.
 pub fn deep(n: usize, fixpoints: usize) -> Vec<u32> {
     let mut words = vec![word(3, 0, 1)];
     while words.len() < n {
         let last = words.len();
-        words.push(if n - last <= fixpoints { word(9, last, last) } else { word(7, 0, last) });
+        words.push(if n - last <= fixpoints { word(8 + (last % 2) as u32, last, last) } else { word(7, 0, last) });
     }
     headed(words)
 }

@@ -5,8 +5,8 @@
  * after it, never 0 (SHOWRULE_HEADER makes one). A length counts the header; the number of words, and so every limit, leaves it out.
  *
  * A house sets two limits, and hands both to text, plain, normal and form: `written`, 1 to 256, is the most words of a written table, and
- * `until_like`, 0 to 10, the most until-like words (kinds 8 to 11) of a plain one; a plain table has at most 2 written + 2 words. A limit
- * outside its range is 25, before any other refusal. The program keeps to 64 and 8.
+ * `until_like`, 0 to 10, the most until-like words (kinds 8 to 11) of a plain one that is rewritten; a plain table has at most 2 written + 2
+ * words. A limit outside its range is 25, before any other refusal. The program keeps to 64 and 8.
  *
  * Every function takes any numbers and any words, and answers 0 when the call is accepted, or the number of the refusal, the first that
  * applies in the order of documents 01 and 02. The place is then the number of the faulty word for 3 to 11 and 21, that of a byte of the
@@ -19,7 +19,7 @@
  *     the pointer, the null pointer too.
  *   - A pointer to a single number (place, form_length, ..) is never null. What the number held before a call does not matter.
  *   - A slice or number that is written lies apart from every other slice and number of the same call.
- *   - A bool is 0 or 1.
+ *   - A bool is 0 or 1. One that a call writes is 0 or 1 too, whatever it held before.
  *   - A call needs stack. 512 KB have been enough for the longest and the deepest rules, and 1 MB for showrule_dialect, which has some
  *     460 KB of arrays of its own for tables of over 512 words (rust/showrule/tests/stack.rs tries them).
  */
@@ -47,7 +47,7 @@ enum {
     SHOWRULE_FIELD_NOT_ZERO = 8,       /* a field that must be 0 isn't */
     SHOWRULE_REPEATED = 9,             /* a word is the same as an earlier one */
     SHOWRULE_UNUSED = 10,              /* a word that is not the last is used by none */
-    SHOWRULE_TOO_MANY_UNTIL_LIKE = 11, /* more until-like words than the limit; the place is the first over it */
+    SHOWRULE_TOO_MANY_UNTIL_LIKE = 11, /* more until-like words than the limit, outside Delta-2; the place is the first over it */
     SHOWRULE_RESULT_TOO_SHORT = 12,    /* the result, its header too, is longer than the slice that is lent for it */
     SHOWRULE_NO_SAMPLE = 13,           /* the recording has no sample */
     SHOWRULE_TOO_MANY_SAMPLES = 14,    /* it has over 4,096 */
@@ -123,14 +123,21 @@ uint32_t showrule_text(const uint8_t *text, size_t bytes, size_t written, size_t
 uint32_t showrule_plain(const uint32_t *table, size_t length, size_t written, size_t until_like, uint32_t *result, size_t room,
                         size_t *form_length, size_t *place);
 
-/* The normal form of a plain table of at most SHOWRULE_PLAIN_WORDS(written) words, `until_like` of them until-like: 25, the checks of a
- * table, 11 and 12. The form is folded, and then numbered by first need with sharing: false or a is a, a W true is true, X false is false,
- * and so on from the leaves upward, so that the whole form may be the one word true or false, and 12 measures the folded form. No other
- * step folds: plain forms, conversions and the tables of texts keep their constants. Accepted, *form_length is the form's length, its
- * header and words are the first of the result, and later words stay. Refused by 12, every word of the result is 0; refused otherwise, it
- * is as it was. Refused, *form_length is 0. A result counts for 16,383 words and the header at most. */
+/* The normal form of a plain table of at most SHOWRULE_PLAIN_WORDS(written) words: 25 and the checks of a table first.
+ *
+ * Where the class byte in its header has bit 6, the table is in Delta-2, and is its own form: *in_source is true, *form_length is the
+ * table's length, and the result is as it was. However many until-like words it has, and however short the result is, it is accepted.
+ *
+ * Any other table is rewritten: 11 where it has over `until_like` until-like words, and 12. *in_source is false, and the form is the first
+ * *form_length words of the result, its header and words; later words stay. It is folded, and then numbered by first need with sharing:
+ * false or a is a, a W true is true, X false is false, and so on from the leaves upward, so that the whole form may be the one word true
+ * or false, and 12 measures the folded form. Nothing else is folded: a table that is its own form, plain forms, conversions and the tables
+ * of texts keep their constants. A result counts for 16,383 words and the header at most.
+ *
+ * Refused by 12, every word of the result is 0; refused otherwise, it is as it was. Refused, *in_source is false and *form_length 0. The
+ * table is only read. */
 uint32_t showrule_normal(const uint32_t *table, size_t length, size_t written, size_t until_like, uint32_t *result, size_t room,
-                         size_t *form_length, size_t *place);
+                         bool *in_source, size_t *form_length, size_t *place);
 
 /* The table of a plain table's conversion to the dialect without W and M: a W b becomes b R (a or b), and a M b becomes b U (a and b);
  * a table that has neither is renumbered only. It takes at most 16,383 words, and makes the checks of a table, kinds 12 to 15 being 4, and
@@ -141,12 +148,13 @@ uint32_t showrule_normal(const uint32_t *table, size_t length, size_t written, s
 uint32_t showrule_dialect(const uint32_t *table, size_t length, uint32_t *result, size_t room, size_t *form_length, size_t *place);
 
 /* The whole way, from a written table to its normal form: showrule_plain into the slice plain, then showrule_normal on exactly the table
- * that it answered, header and words, under the same limits. plain is left as showrule_plain leaves it. Where the plain form is refused,
- * the number and the place are those of that refusal, and the result is as it was; else number, place, *form_length and the result are as
- * showrule_normal leaves them, and the place of 11 is the number of a word of the plain form. A 12 is of the slice in which every word
- * is 0. */
+ * that it answered, header and words, under the same limits. plain is left as showrule_plain leaves it, and where that table is its own
+ * form, *in_plain is true: the form is the first *form_length words of plain, and the result is as it was. Else *in_plain is false, and the
+ * form is the first *form_length words of the result. Where the plain form is refused, the number and the place are those of that refusal,
+ * and the result is as it was; else number, place and the result are as showrule_normal leaves them, and the place of 11 is the number of
+ * a word of the plain form. A 12 is of the slice in which every word is 0. Refused, *in_plain is false and *form_length 0. */
 uint32_t showrule_form(const uint32_t *table, size_t length, size_t written, size_t until_like, uint32_t *plain, size_t plain_room,
-                       uint32_t *result, size_t room, size_t *form_length, size_t *place);
+                       uint32_t *result, size_t room, bool *in_plain, size_t *form_length, size_t *place);
 
 /* The tally of a desk: how many accepted judgements named it, and how many of those held at moment 0. A house has a slice of them, one for
  * each desk, and begins with zeros. */

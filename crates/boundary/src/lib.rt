@@ -5,12 +5,12 @@ ghost use lib.ListN.{length};
 ghost use Rattle.refusals.specs.Refusals.{outcomeNumber, outcomePlace};
 ghost use Rattle.table.specs.Limits.{house};
 ghost use Rattle.table.specs.Header.{body, headedChecked};
-ghost use Rattle.table.specs.Frame.{classStep, plainStep, normalStep, dialectStep, outcomeOf, answerOf, resultOf};
+ghost use Rattle.table.specs.Frame.{classStep, plainStep, normalStep, dialectStep, outcomeOf, answerOf, resultOf, formOf};
 ghost use Rattle.text.specs.Text.{textStep};
-ghost use Rattle.claims.specs.Whole.{wholeAnswer, wholeResult};
+ghost use Rattle.claims.specs.Whole.{wholeForm, wholeResult};
 ghost use Rattle.judging.specs.Judging.{judgeOutcome, rowOutcome, scratchAfter, deskOf, talliesAfter};
 ghost use Rattle.judging.specs.Judging.{reply as judgeReply};
-ghost use Rattle.replies.specs.Replies.{FormReply, JudgeReply, RowReply};
+ghost use Rattle.replies.specs.Replies.{TableReply, FormReply, JudgeReply, RowReply};
 ghost use Rattle.agreement.specs.Comparing.{comparison};
 ghost use Rattle.agreement.specs.Replies.{ComparisonReply};
 use judge_calls::judge;
@@ -44,7 +44,7 @@ pub extern "C" fn showrule_text(
     words: &mut usize,
     place: &mut usize,
 ) -> u32
-    ensures { λ r. ⌜ FormReply
+    ensures { λ r. ⌜ TableReply
         (answerOf (textStep (house written fixpoints)) (now (text .entry)) (length (now (result .entry))))
         r (now (words .exit)) (now (place .exit)) ⌝ }
     ensures { λ r. ⌜ now (result .exit) ≡ resultOf (textStep (house written fixpoints)) (now (text .entry)) (now (result .entry)) ⌝ }
@@ -62,7 +62,7 @@ pub extern "C" fn showrule_plain(
     words: &mut usize,
     place: &mut usize,
 ) -> u32
-    ensures { λ r. ⌜ FormReply
+    ensures { λ r. ⌜ TableReply
         (answerOf (plainStep (house written fixpoints)) (now (table .entry)) (length (now (result .entry))))
         r (now (words .exit)) (now (place .exit)) ⌝ }
     ensures { λ r. ⌜ now (result .exit) ≡ resultOf (plainStep (house written fixpoints)) (now (table .entry)) (now (result .entry)) ⌝ }
@@ -70,25 +70,26 @@ pub extern "C" fn showrule_plain(
     form_calls::plain(table, written, fixpoints, result, words, place)
 }
 
-// The normal form of a plain table, at the front of the result.
+// The form of a plain table: the table itself, or the front of the result.
 #[no_mangle]
 pub extern "C" fn showrule_normal(
     table: &[u32],
     written: usize,
     fixpoints: usize,
     result: &mut [u32],
+    own: &mut bool,
     words: &mut usize,
     place: &mut usize,
 ) -> u32
     ensures { λ r. ⌜ FormReply
-        (answerOf (normalStep (house written fixpoints)) (now (table .entry)) (length (now (result .entry))))
-        r (now (words .exit)) (now (place .exit)) ⌝ }
+        (formOf (house written fixpoints) (now (table .entry)) (length (now (result .entry))))
+        r (now (own .exit)) (now (words .exit)) (now (place .exit)) ⌝ }
     ensures { λ r. ⌜ now (result .exit) ≡ resultOf (normalStep (house written fixpoints)) (now (table .entry)) (now (result .entry)) ⌝ }
 {
-    form_calls::normal(table, written, fixpoints, result, words, place)
+    form_calls::normal(table, written, fixpoints, result, own, words, place)
 }
 
-// The whole way: the plain form of a written table in one slice, and its normal form in the other.
+// The whole way: the plain form of a written table in one slice, and its form, which is that, or the front of the other.
 #[no_mangle]
 pub extern "C" fn showrule_form(
     table: &[u32],
@@ -96,16 +97,17 @@ pub extern "C" fn showrule_form(
     fixpoints: usize,
     plain: &mut [u32],
     result: &mut [u32],
+    own: &mut bool,
     words: &mut usize,
     place: &mut usize,
 ) -> u32
     ensures { λ r. ⌜ FormReply
-        (wholeAnswer (house written fixpoints) (now (table .entry)) (length (now (plain .entry))) (length (now (result .entry))))
-        r (now (words .exit)) (now (place .exit)) ⌝ }
+        (wholeForm (house written fixpoints) (now (table .entry)) (length (now (plain .entry))) (length (now (result .entry))))
+        r (now (own .exit)) (now (words .exit)) (now (place .exit)) ⌝ }
     ensures { λ r. ⌜ now (plain .exit) ≡ resultOf (plainStep (house written fixpoints)) (now (table .entry)) (now (plain .entry)) ⌝ }
     ensures { λ r. ⌜ now (result .exit) ≡ wholeResult (house written fixpoints) (now (table .entry)) (length (now (plain .entry))) (now (result .entry)) ⌝ }
 {
-    form_calls::form(table, written, fixpoints, plain, result, words, place)
+    form_calls::form(table, written, fixpoints, plain, result, own, words, place)
 }
 
 // The table of a plain table's conversion to the dialect without W and M, at the front of the result.
@@ -116,7 +118,7 @@ pub extern "C" fn showrule_dialect(
     words: &mut usize,
     place: &mut usize,
 ) -> u32
-    ensures { λ r. ⌜ FormReply
+    ensures { λ r. ⌜ TableReply
         (answerOf dialectStep (now (table .entry)) (length (now (result .entry))))
         r (now (words .exit)) (now (place .exit)) ⌝ }
     ensures { λ r. ⌜ now (result .exit) ≡ resultOf dialectStep (now (table .entry)) (now (result .entry)) ⌝ }

@@ -69,8 +69,18 @@ pub fn plain(c: Case, table: &[u32]) {
     sum::plain(&result);
 }
 
+// Which slice the form is in.
+fn stands(own: bool) {
+    if own {
+        show::text(b", source");
+    } else {
+        show::text(b", result");
+    }
+}
+
 pub fn normal(c: Case, table: &[u32]) {
     let mut result = [0xEEEEEEEEu32; 16400];
+    let mut own = true;
     let mut words: usize = 9;
     let mut place: usize = 9;
     let room = c.room;
@@ -80,18 +90,21 @@ pub fn normal(c: Case, table: &[u32]) {
             c.written,
             c.fixpoints,
             &mut result[0..room],
+            &mut own,
             &mut words,
             &mut place,
         );
         show::answer(number, place);
     }
     show::number(words);
+    stands(own);
     sum::form(&result);
 }
 
 pub fn form(c: Case, table: &[u32]) {
     let mut plain = [0xEEEEEEEEu32; 520];
     let mut result = [0xEEEEEEEEu32; 16400];
+    let mut own = true;
     let mut words: usize = 9;
     let mut place: usize = 9;
     let room = c.room;
@@ -103,12 +116,14 @@ pub fn form(c: Case, table: &[u32]) {
             c.fixpoints,
             &mut plain[0..room],
             &mut result[0..second],
+            &mut own,
             &mut words,
             &mut place,
         );
         show::answer(number, place);
     }
     show::number(words);
+    stands(own);
     sum::plain(&plain);
     sum::form(&result);
 }

@@ -1,8 +1,10 @@
-// The header of a table's words: kind 0, the class of the rule, the number of words.
+// The header of a table's words: kind 0, the class of the rule, the number of words; and whether that class is Delta-2.
 use class_bytes::fill;
 ghost use mathlib.Core.Path.{_≡_};
 ghost use Prim.Native.Nat.{_≤_};
 ghost use lib.ListN.{length};
+ghost use Rattle.logic.specs.Bit.{bit};
+ghost use Rattle.table.specs.Node.{left};
 ghost use Rattle.table.specs.Header.{isWritten, classOf, headerOf};
 ghost use Rattle.headers.specs.Headable.{Headable};
 
@@ -79,4 +81,11 @@ pub fn of(words: &[u32]) -> u32
     ensures { λ r. ⌜ r ≡ headerOf (now (words .entry)) ⌝ }
 {
     word::pack(0, class_of(words, 16383) as usize, words.len())
+}
+
+// Bit 6 of the class, Delta-2.
+pub fn is_normal(header: u32) -> bool
+    ensures { λ r. ⌜ r ≡ bit (left header) 6 ⌝ }
+{
+    (word::left(header) >> 6) & 1 == 1
 }

@@ -1,2 +1,3 @@
--- How the normal-form step ends.
+-- How the normal-form step ends, and what it hands back.
 pub mod Ends
+pub mod Handed

@@ -1,10 +1,11 @@
-// From a written table to its normal form or the refusal: the plain-form step, and the normal-form step on exactly the words that
-// it answered.
+// From a written table to its form or the refusal: the plain-form step, and the normal-form step on exactly the words that it answered. The form
+// is the plain form, where it stands, if that is its own form.
 use table::answer::Answer;
+use table::answer::Form;
 use table::limits::Limits;
 ghost use Rattle.claims.specs.Claim.{Claim};
 
-pub fn normal_form(limits: Limits, table: &[u32], plain: &mut [u32], form: &mut [u32]) -> Answer
+pub fn form(limits: Limits, table: &[u32], plain: &mut [u32], form: &mut [u32]) -> Form
     ensures { λ r. ⌜ Claim
         limits
         (now (table .entry))
@@ -15,7 +16,7 @@ pub fn normal_form(limits: Limits, table: &[u32], plain: &mut [u32], form: &mut 
         r ⌝ }
 {
     match nnf::plain_form(limits, table, plain) {
-        Answer::Refused(r) => Answer::Refused(r),
-        Answer::Made(n) => normal_form::normalise(limits, &plain[0..n], form),
+        Answer::Refused(r) => Form::Refused(r),
+        Answer::Made(n) => normal_form::form(limits, &plain[0..n], form),
     }
 }

@@ -1,4 +1,4 @@
-// Prints the normal form of a rule that is read from standard input: a written table, its words least byte first, or after the argument
+// Prints the form of a rule that is read from standard input: a written table, its words least byte first, or after the argument
 // `text` a text. The form is the count in decimal, then its header and each word on its line in eight hexadecimal digits, capitals, or
 // after the argument `as-text` a text. A refusal prints one line: refused, the number, at, the place.
 use console::argument;
@@ -8,14 +8,16 @@ use refusals::Outcome;
 use reports::refused;
 use reports::refused_text;
 use table::answer::Answer;
+use table::answer::Form;
 
 // The form of a table, printed.
 fn answer(table: &[u32], as_text: bool) {
     let mut plain = [0u32; 131];
     let mut form = [0u32; 4097];
-    match pipeline::normal_form(limits::desk(), table, &mut plain, &mut form) {
-        Answer::Made(n) => form_printing::form(&form, n, as_text),
-        Answer::Refused(r) => refused(r),
+    match pipeline::form(limits::desk(), table, &mut plain, &mut form) {
+        Form::Source(n) => form_printing::form(&plain, n, as_text),
+        Form::Made(n) => form_printing::form(&form, n, as_text),
+        Form::Refused(r) => refused(r),
     }
 }
 

@@ -1,10 +1,11 @@
 // The answers of the steps as lent numbers: document 01's refusal number, 0 when the call is accepted, its place, and what an accepted call says.
 ghost use mathlib.Core.Path.{_≡_};
 ghost use Rattle.refusals.specs.Refusals.{outcomeNumber, outcomePlace};
-ghost use Rattle.replies.specs.Replies.{FormReply, JudgeReply};
+ghost use Rattle.replies.specs.Replies.{TableReply, FormReply, JudgeReply};
 use judging::answer::Judgement;
 use refusals::Outcome;
 use table::answer::Answer;
+use table::answer::Form;
 
 pub fn reply(o: Outcome, place: &mut usize) -> u32
     ensures { λ r. ⌜ r ≡ outcomeNumber o ⌝ }
@@ -15,9 +16,9 @@ pub fn reply(o: Outcome, place: &mut usize) -> u32
     report.0
 }
 
-// How many words a form has, or the refusal, in lent numbers.
-pub fn form_reply(a: Answer, words: &mut usize, place: &mut usize) -> u32
-    ensures { λ r. ⌜ FormReply a r (now (words .exit)) (now (place .exit)) ⌝ }
+// How many words a table has, or the refusal, in lent numbers.
+pub fn table_reply(a: Answer, words: &mut usize, place: &mut usize) -> u32
+    ensures { λ r. ⌜ TableReply a r (now (words .exit)) (now (place .exit)) ⌝ }
 {
     match a {
         Answer::Made(n) => {
@@ -27,6 +28,33 @@ pub fn form_reply(a: Answer, words: &mut usize, place: &mut usize) -> u32
         }
         Answer::Refused(r) => {
             let report = refusals::report_of(r);
+            *words = 0;
+            *place = report.1;
+            report.0
+        }
+    }
+}
+
+// Whether a form is its source and how many words it has, or the refusal, in lent numbers.
+pub fn form_reply(f: Form, own: &mut bool, words: &mut usize, place: &mut usize) -> u32
+    ensures { λ r. ⌜ FormReply f r (now (own .exit)) (now (words .exit)) (now (place .exit)) ⌝ }
+{
+    match f {
+        Form::Source(m) => {
+            *own = true;
+            *words = m;
+            *place = 0;
+            0
+        }
+        Form::Made(k) => {
+            *own = false;
+            *words = k;
+            *place = 0;
+            0
+        }
+        Form::Refused(r) => {
+            let report = refusals::report_of(r);
+            *own = false;
             *words = 0;
             *place = report.1;
             report.0

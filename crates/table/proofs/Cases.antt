@@ -30,8 +30,8 @@ use Rattle.table.specs.Checks.{occurs, wordChecks, wordsChecks, uses, us
 use Rattle.table.specs.StepChecks.{limitChecks, fixpointChecks}
 use Rattle.table.specs.Header.{isWritten, classOf, headerOf, headed, body, isMisheaded, headedChecks, headedChecked}
 use Rattle.table.specs.Numbering.{findFrom, find, put, build, tableOf}
-use Rattle.table.specs.Steps.{plainTable, fixpoints, normalTable}
-use Rattle.table.specs.Cases.{Case, normal, plain, refused, refusedBy, class, judged, IsRefusal, Right, starred}
+use Rattle.table.specs.Steps.{plainTable, fixpoints, isNormal, normalTable, formTable}
+use Rattle.table.specs.Cases.{Case, form, normal, plain, refused, refusedBy, class, judged, IsRefusal, Right, starred}
 
 sameList : List ℕ → List ℕ → Bool
 sameList [] [] = true
@@ -68,6 +68,7 @@ match-at f k (b ∷ bs) h (suc i) l = let e : k + suc i ≡ suc k + i = omega ar
 
 -- the test of a row
 test : Case → Bool
+test (form t u) = sameList (headed (formTable (body t))) u
 test (normal t u) = sameList (headed (normalTable (body t))) u
 test (plain t u) = sameList (headed (plainTable (body t))) u
 test (refused t n p) = isRefusal (headedChecked false 64 t) n p
@@ -77,6 +78,7 @@ test (judged t r bs) = matches (truth r (rule (body t))) 0 bs
 
 test-right : (c : Case) → T (test c) → Right c
 unfolding test
+test-right (form t u) h = same-list (headed (formTable (body t))) u h
 test-right (normal t u) h = same-list (headed (normalTable (body t))) u h
 test-right (plain t u) h = same-list (headed (plainTable (body t))) u h
 test-right (refused t n p) h = is-refusal (headedChecked false 64 t) n p h
@@ -85,7 +87,7 @@ test-right (class t b) h = eqb→eq (classByte (rule (body t))) b h
 test-right (judged t r bs) h = λ i l. Iff·trans (Iff·symm (truth-holds r (rule (body t)) i)) (rw zero-add at (match-at (truth r (rule (body t))) 0 bs h i l))
 
 all-pass : T (allPass test starred)
-unfolding allPass test sameList isRefusal matches normalTable plainTable fixpoints rule formulas formulasAfter formulaOf wordFormula kind left right pack shape tableOf build put find findFrom normalForm choices choicesOf part chosen leastOf greatestOf steady recurring opening fold foldUnary foldBinary same ones onesIn negation.plain classByte isWritten classOf headerOf isMisheaded headedChecked headedChecks wordsChecks wordChecks useChecks limitChecks fixpointChecks uses used occurs truth sweep word place letterIn bit decide ℕ-discrete
+unfolding allPass test sameList isRefusal matches isNormal formTable normalTable plainTable fixpoints rule formulas formulasAfter formulaOf wordFormula kind left right pack shape tableOf build put find findFrom normalForm choices choicesOf part chosen leastOf greatestOf steady recurring opening fold foldUnary foldBinary same ones onesIn negation.plain classByte isWritten classOf headerOf isMisheaded headedChecked headedChecks wordsChecks wordChecks useChecks limitChecks fixpointChecks uses used occurs truth sweep word place letterIn bit decide ℕ-discrete
 all-pass = tt
 
 -- every starred case holds

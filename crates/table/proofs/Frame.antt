@@ -21,7 +21,8 @@ use Rattle.table.specs.Limits.{isPermitted, plainLimit}
 use Rattle.table.specs.Header.{body, headedChecks, headedChecked}
 use Rattle.table.specs.Numbering.{room, fits}
 use Rattle.table.specs.StepChecks.{isFixpointWord, limitChecks, fixpointChecks, resultFits, resultChecks}
-use Rattle.table.specs.Frame.{Step, stated, outcomeOf, answerBy, answerOf, resultBy, resultOf, answerNumber, classStep, plainStep, normalStep, dialectStep}
+use Rattle.table.specs.Steps.{isNormal}
+use Rattle.table.specs.Frame.{Step, stated, outcomeOf, answerBy, answerOf, resultBy, resultOf, answerNumber, classStep, plainStep, formChecks, normalStep, dialectStep}
 use Rattle.refusals.proofs.First.{first-append-accepted, first-append-refused, first-append-both, AllRefusals, first-refusal}
 use Rattle.table.proofs.Header.{headed-refusal}
 
@@ -168,15 +169,20 @@ fixpoint-refusals (suc limit) n (w ∷ ws) = go (isFixpointWord w) (fixpoint-ref
 pub fixpoint-refusal : (limit : ℕ) (t : List ℕ) (r : Refusal) → first (fixpointChecks limit 1 t) ≡ outcome.Refused r → numberOf r ≡ 11
 fixpoint-refusal limit t r e = first-refusal (λ x. numberOf x ≡ 11) (fixpointChecks limit 1 t) r (fixpoint-refusals limit 1 t) e
 
+-- and are made of no table that is its own form
+form-refusal : (l : Limits) (t : List ℕ) (b : Bool) (r : Refusal) → first (cond b [] (fixpointChecks (l .fixpoints) 1 t)) ≡ outcome.Refused r → numberOf r ≡ 11
+form-refusal l t true r e = absurd (let z : _≡_ {A = ℕ} 0 1 = cc in omega arith)
+form-refusal l t false r e = fixpoint-refusal (l .fixpoints) t r e
+
 pub normal-early : (l : Limits) → Early (normalStep l)
 unfolding headedChecked
 normal-early l = stated-early l (record { early = λ s r e n. by-table s r n (first (headedChecks true (plainLimit l) s)) refl e })
   where
     by-table : (s : List ℕ) (r : Refusal) → numberOf r ≡ 12 → (o : Outcome) → first (headedChecks true (plainLimit l) s) ≡ o
-        → first (headedChecks true (plainLimit l) s ++ fixpointChecks (l .fixpoints) 1 (body s)) ≡ outcome.Refused r → ⊥
+        → first (headedChecks true (plainLimit l) s ++ formChecks l (body s)) ≡ outcome.Refused r → ⊥
     by-table s r n outcome.Accepted k e =
-        omega (arith, fixpoint-refusal (l .fixpoints) (body s) r (sym (first-append-accepted (headedChecks true (plainLimit l) s) _ k) ∙ e))
+        omega (arith, form-refusal l (body s) (isNormal (body s)) r (sym (first-append-accepted (headedChecks true (plainLimit l) s) _ k) ∙ e))
     by-table s r n (outcome.Refused q) k e =
-        let a = first-append-refused (headedChecks true (plainLimit l) s) (fixpointChecks (l .fixpoints) 1 (body s)) q k in
+        let a = first-append-refused (headedChecks true (plainLimit l) s) (formChecks l (body s)) q k in
         let same : r ≡ q = cc in
         headed-refusal true (plainLimit l) s q k (sym (ap numberOf same) ∙ n)

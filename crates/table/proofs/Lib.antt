@@ -8,4 +8,5 @@ pub mod Letters
 pub mod Header
 pub mod Stated
 pub mod Frame
+pub mod Normal
 pub mod Cases

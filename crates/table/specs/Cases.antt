@@ -17,11 +17,13 @@ use Rattle.refusals.specs.Refusals.{numberOf, placeOf, first}
 use Rattle.table.specs.Table.{rule}
 use Rattle.table.specs.Header.{headed, body, headedChecked}
 use Rattle.table.specs.Limits.{house}
-use Rattle.table.specs.Steps.{plainTable, normalTable}
+use Rattle.table.specs.Steps.{plainTable, normalTable, formTable}
 use Rattle.table.specs.Frame.{Step, plainStep, normalStep}
 
 pub data Case : Type 0 where
-  -- a plain table, and its normal form's
+  -- a plain table, and its form's
+  form : List ℕ → List ℕ → Case
+  -- a plain table, and its normal form's, whether or not it is its own form
   normal : List ℕ → List ℕ → Case
   -- a written table, and its plain form's
   plain : List ℕ → List ℕ → Case
@@ -41,6 +43,7 @@ IsRefusal (Refused r) n p = (numberOf r ≡ n) × (placeOf r ≡ p)
 
 -- what a row says
 abbrev pub Right : Case → Type 0
+Right (form t u) = headed (formTable (body t)) ≡ u
 Right (normal t u) = headed (normalTable (body t)) ≡ u
 Right (plain t u) = headed (plainTable (body t)) ≡ u
 Right (refused t n p) = IsRefusal (headedChecked false 64 t) n p
@@ -57,7 +60,7 @@ once a = record { samples = a ∷ []; start = 0; driven = 32; inside = lit< tt; 
 
 abbrev pub starred : List Case
 starred =
-    normal (0x001FC001 ∷ 0x30000001 ∷ []) (0x001FC001 ∷ 0x30000001 ∷ [])
+    form (0x001FC001 ∷ 0x30000001 ∷ []) (0x001FC001 ∷ 0x30000001 ∷ [])
     ∷ normal (0x001E8003 ∷ 0x20000000 ∷ 0x30000001 ∷ 0x80004002 ∷ [])
     (0x00180008 ∷ 0x20000000 ∷ 0x30000001 ∷ 0x80004002 ∷ 0x10000000 ∷ 0x80004003 ∷ 0xA0010005 ∷ 0x5000C006 ∷ 0x6000C007 ∷ [])
     ∷ plain (0x00000003 ∷ 0x30000001 ∷ 0xD0000001 ∷ 0xC0000002 ∷ []) (0x001F0003 ∷ 0x10000000 ∷ 0x40000001 ∷ 0xA0004002 ∷ [])
@@ -96,7 +99,7 @@ starred =
     ∷ refusedBy (normalStep (house 64 11)) [] 25 0
     ∷ refusedBy (plainStep (house 1 0)) (0x00000002 ∷ 0x30000001 ∷ 0xE0000001 ∷ []) 2 0
     ∷ refusedBy (normalStep (house 1 10)) (0x001F4005 ∷ 0x30000001 ∷ []) 2 0
-    ∷ refusedBy (normalStep (house 256 0)) (0x001F0003 ∷ 0x30000001 ∷ 0x30000002 ∷ 0x90004002 ∷ []) 11 3
+    ∷ refusedBy (normalStep (house 256 2)) (0x00000006 ∷ 0x30000001 ∷ 0x20000000 ∷ 0x80008001 ∷ 0x10000000 ∷ 0xA0010003 ∷ 0x80008005 ∷ []) 11 6
     -- of document 02, N7: of the two parts with one chosen word that of the outer word, G, comes first
     ∷ normal (0x00180007 ∷ 0x10000000 ∷ 0x40000001 ∷ 0x20000000 ∷ 0x30000002 ∷ 0x8000C004 ∷ 0x60008005 ∷ 0xA0004006 ∷ [])
     (0x00100011
@@ -107,4 +110,9 @@ starred =
     ∷ normal (0x001E8003 ∷ 0x30000001 ∷ 0x10000000 ∷ 0xB0004002 ∷ []) (0x001FC001 ∷ 0x10000000 ∷ [])
     ∷ normal (0x00180005 ∷ 0x10000000 ∷ 0x20000000 ∷ 0x30000001 ∷ 0xB0008003 ∷ 0x90004004 ∷ [])
     (0x0010000B ∷ 0x30000001 ∷ 0x10000000 ∷ 0x20000000 ∷ 0x8000C001 ∷ 0xA0008004 ∷ 0x50004005 ∷ 0x60004006 ∷ 0xA0008001 ∷ 0x8000C008 ∷ 0x50018009 ∷ 0x6001C00A ∷ [])
+    -- of document 02, N11: F p1 and G p1 are their own forms; of F G F p1, which is not in Delta-2, the form is the normal form
+    ∷ form (0x001E8003 ∷ 0x20000000 ∷ 0x30000001 ∷ 0x80004002 ∷ []) (0x001E8003 ∷ 0x20000000 ∷ 0x30000001 ∷ 0x80004002 ∷ [])
+    ∷ form (0x001F0003 ∷ 0x10000000 ∷ 0x30000001 ∷ 0xA0004002 ∷ []) (0x001F0003 ∷ 0x10000000 ∷ 0x30000001 ∷ 0xA0004002 ∷ [])
+    ∷ form (0x00000006 ∷ 0x30000001 ∷ 0x20000000 ∷ 0x80008001 ∷ 0x10000000 ∷ 0xA0010003 ∷ 0x80008005 ∷ [])
+    (0x00180009 ∷ 0x20000000 ∷ 0x30000001 ∷ 0x80004002 ∷ 0x80004003 ∷ 0x10000000 ∷ 0xA0014004 ∷ 0x50010006 ∷ 0x6001C007 ∷ 0x60020007 ∷ [])
     ∷ []

@@ -1,7 +1,9 @@
--- What each step makes of a table: the class bytes, the plain form's table, the normal form's table and the table of the dialect without W and M.
+-- What each step makes of a table: the class bytes, the plain form's table, the normal form's table and the table of the dialect without W and M;
+-- and which tables are their own form.
 use Prim.Native.Nat.{ℕ}
-use mathlib.Core.Bool.{true}
+use mathlib.Core.Bool.{Bool, true, cond}
 use mathlib.Core.List.{List, map}
+use Rattle.logic.specs.Bit.{bit}
 use Rattle.logic.specs.Formula.{Formula}
 use Rattle.logic.specs.ClassByte.{classByte}
 use Rattle.logic.specs.NegationNormalForm.{plain}
@@ -25,6 +27,14 @@ fixpoints t = keep isFixpoint (formulas t)
 -- the normal form is folded before it is numbered (document 02, N8)
 unfoldable pub normalTable : List ℕ → List ℕ
 normalTable t = tableOf (fold (normalForm (fixpoints t) (rule t)))
+
+-- the class byte of the rule has bit 6, Delta-2 (document 02, N11)
+unfoldable pub isNormal : List ℕ → Bool
+isNormal t = bit (classByte (rule t)) 6
+
+-- the form of a plain table: the table itself, or its normal form's
+unfoldable pub formTable : List ℕ → List ℕ
+formTable t = cond (isNormal t) t (normalTable t)
 
 unfoldable pub dialectTable : List ℕ → List ℕ
 dialectTable t = tableOf (dialect (rule t))

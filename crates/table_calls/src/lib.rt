@@ -7,9 +7,9 @@ ghost use Rattle.table.specs.Limits.{house};
 ghost use Rattle.table.specs.Header.{headedChecked};
 ghost use Rattle.table.specs.Frame.{classStep, dialectStep, outcomeOf, answerOf, resultOf};
 ghost use Rattle.text.specs.Text.{textStep};
-ghost use Rattle.replies.specs.Replies.{FormReply};
-use replies::form_reply;
+ghost use Rattle.replies.specs.Replies.{TableReply};
 use replies::reply;
+use replies::table_reply;
 use table::limits::Limits;
 
 pub fn check(table: &[u32], plain: bool, limit: usize, place: &mut usize) -> u32
@@ -37,21 +37,21 @@ pub fn text(
     words: &mut usize,
     place: &mut usize,
 ) -> u32
-    ensures { λ r. ⌜ FormReply
+    ensures { λ r. ⌜ TableReply
         (answerOf (textStep (house written fixpoints)) (now (text .entry)) (length (now (result .entry))))
         r (now (words .exit)) (now (place .exit)) ⌝ }
     ensures { λ r. ⌜ now (result .exit) ≡ resultOf (textStep (house written fixpoints)) (now (text .entry)) (now (result .entry)) ⌝ }
 {
     let limits = Limits { written, fixpoints };
-    form_reply(text::read(limits, text, result), words, place)
+    table_reply(text::read(limits, text, result), words, place)
 }
 
 // The table of a plain table's conversion to the dialect without W and M, at the front of the result.
 pub fn dialect(table: &[u32], result: &mut [u32], words: &mut usize, place: &mut usize) -> u32
-    ensures { λ r. ⌜ FormReply
+    ensures { λ r. ⌜ TableReply
         (answerOf dialectStep (now (table .entry)) (length (now (result .entry))))
         r (now (words .exit)) (now (place .exit)) ⌝ }
     ensures { λ r. ⌜ now (result .exit) ≡ resultOf dialectStep (now (table .entry)) (now (result .entry)) ⌝ }
 {
-    form_reply(dialect::convert(table, result), words, place)
+    table_reply(dialect::convert(table, result), words, place)
 }

@@ -3,8 +3,8 @@ use crate::generate::{with_table, with_text};
 use crate::input::Input;
 use crate::numbers::Numbers;
 use reference::edges::{
-    chain_of, chain_of_ands, chain_of_next, constant_forms, headed, long_forms, long_forms_of_ten, long_unfolded, nested,
-    over_constants,
+    alternating, bits_of, chain_of, chain_of_ands, chain_of_next, constant_forms, headed, limits_for, long_forms,
+    long_forms_of_ten, long_unfolded, nested, outside_words, over_constants,
 };
 use reference::limits::Limits;
 use reference::rules::rules;
@@ -15,18 +15,25 @@ pub fn inputs() -> Vec<Input> {
     let mut tables: Vec<Vec<u32>> = rules().into_iter().map(|(_, words)| words).collect();
     tables.extend([0, 1, 63, 64, 65, 129, 130, 131, 16_383, 16_384].map(chain_of_next));
     tables.extend([59, 60, 61].map(chain_of_ands));
-    tables.extend((1..=10).flat_map(|k| [8, 9, 10, 11].map(|kind| chain_of(kind, k))));
+    tables.extend([50, 60].map(|ands| outside_words(&chain_of_ands(ands))));
+    // in Delta-2 however many they are, and outside it
+    tables.extend((1..=10).chain([20, 60]).flat_map(|k| [8, 9, 10, 11].map(|kind| chain_of(kind, k))));
+    tables.extend((3..=10).flat_map(|k| [8, 9, 10, 11].map(|kind| alternating(kind, k))));
     // conversions as long as any slice counts for, and longer
     tables.extend([8_190, 8_191].into_iter().flat_map(|k| [9, 11].map(|kind| chain_of(kind, k))));
-    tables.extend(long_forms().into_iter().chain(long_unfolded()).map(|(_, words)| words));
     tables.extend(constant_forms().into_iter().map(|(_, words)| words));
+    // just inside Delta-2, and just outside it by an X
+    let sides = ["GF p1 & FG p2", "GF p1 | FG p2", "GF(p1 | X p2) & (p1 U G p2)"];
+    tables.extend(sides.iter().flat_map(|text| [bits_of(text), bits_of(&format!("X({text})"))]));
+    let desk = tables.iter().map(|words| headed(words)).chain(headers()).map(|table| (Limits::DESK, table));
+    let long = long_forms().into_iter().chain(long_unfolded()).map(|(_, words)| (limits_for(&words), headed(&words)));
     let mut inputs = Vec::new();
-    for (n, table) in (0..).zip(tables.iter().map(|words| headed(words)).chain(headers())) {
-        // several rooms and recordings each, under the program's limits and others by turns
+    for (n, (limits, table)) in (0..).zip(desk.chain(long)) {
+        // several rooms and recordings each, under these limits and others by turns
         for again in 0..if table.len() > 1000 { 2 } else { 6 } {
             let mut numbers = Numbers::new(7, n * 10 + again);
             inputs.push(match again % 2 {
-                0 => with_text(&mut numbers, Limits::DESK, table.clone(), vec![]),
+                0 => with_text(&mut numbers, limits, table.clone(), vec![]),
                 _ => with_table(&mut numbers, table.clone()),
             });
         }
@@ -62,7 +69,9 @@ fn limits() -> Vec<(Limits, Vec<u32>)> {
     }
     for until_like in 0..=10 {
         for kind in 8..12 {
-            inputs.extend([until_like.max(1), until_like + 1].map(|k| (house(16, until_like), chain_of(kind, k))));
+            let limits = house(16, until_like);
+            inputs.extend([until_like.max(1), until_like + 1].map(|k| (limits, chain_of(kind, k))));
+            inputs.extend([until_like.max(3), until_like.max(2) + 1].map(|k| (limits, alternating(kind, k))));
         }
     }
     inputs.extend(long_forms_of_ten().map(|(_, words)| (Limits::HIGHEST, words)));
@@ -73,7 +82,8 @@ fn limits() -> Vec<(Limits, Vec<u32>)> {
 fn headers() -> Vec<Vec<u32>> {
     let mut tables = vec![vec![]];
     tables.extend([0, 1, 64, 65, 130, 131, 16_383, 0x001F_C001, 0x1000_0001, u32::MAX].map(|header| vec![header]));
-    for words in [vec![0x3000_0001], vec![0x3000_0001, 0xE000_0001], chain_of(9, 3), chain_of(8, 9), vec![0]] {
+    let always = vec![0x3000_0001, 0xE000_0001];
+    for words in [vec![0x3000_0001], always, chain_of(9, 3), chain_of(8, 9), alternating(8, 3), alternating(9, 9), vec![0]] {
         let table = headed(&words);
         let other = |bit: u32| [&[table[0] ^ 1 << bit], &words[..]].concat();
         tables.extend((0..32).map(other));

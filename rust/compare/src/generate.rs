@@ -10,7 +10,7 @@ use reference::header::words;
 use reference::limits::Limits;
 use reference::steps::{self, Tally};
 use reference::word::{Word, MOST_WORDS};
-use std::collections::HashSet;
+use std::collections::HashMap;
 
 pub fn input(numbers: &mut Numbers) -> Input {
     let mut words = table_words(numbers);
@@ -89,7 +89,7 @@ pub fn with_text(numbers: &mut Numbers, limits: Limits, table: Vec<u32>, text: V
     }
 }
 
-/// The lengths of what each step makes of a table, its header counted; where nothing is made, there is none.
+/// The lengths of what each step writes of a table, its header counted; where nothing is written, there is none.
 pub struct Lengths {
     pub plain: usize,
     pub normal: usize,
@@ -100,11 +100,15 @@ pub struct Lengths {
 pub fn lengths(table: &[u32], limits: Limits) -> Lengths {
     let reference = Reference::default();
     let plain: Vec<u32> = reference.plain_words(table, limits).unwrap_or_default().iter().map(|w| w.bits()).collect();
+    let rewritten = |table: &[u32]| match reference.normal_words(table, limits) {
+        Ok(Some(form)) => 1 + form.len(),
+        _ => 0,
+    };
     Lengths {
         plain: if plain.is_empty() { 0 } else { 1 + plain.len() },
-        normal: reference.normal_words(table, limits).map_or(0, |form| 1 + form.len()),
+        normal: rewritten(table),
         dialect: steps::dialect_words(table).map_or(0, |made| 1 + made.len()),
-        form: reference.normal_words(&headed(&plain), limits).map_or(0, |form| 1 + form.len()),
+        form: rewritten(&headed(&plain)),
     }
 }
 
@@ -162,11 +166,19 @@ fn table_words(numbers: &mut Numbers) -> Vec<u32> {
         _ => numbers.one_of(&[16_382, 16_383, 16_384, 16_390]),
     };
     let plain = numbers.once_in(3);
-    let until_like = numbers.one_of(&[0, 1, 2, 2, 3, 3, 3, 4, 4, 5, 6, 8, 9, 10, usize::MAX]);
+    // few rules that are grown lie outside Delta-2, so that many are put in one that does
+    let outside = numbers.once_in(2);
+    let until_like = match outside {
+        true => numbers.one_of(&[0, 0, 0, 1, 1, 1, 2, 2, 3, 3, 4, 5, 6, 7, usize::MAX]),
+        false => numbers.one_of(&[0, 1, 2, 2, 3, 3, 3, 4, 4, 5, 6, 8, 9, 10, usize::MAX]),
+    };
     let letters = numbers.one_of(&[1, 2, 2, 3, 3, 4, 32]);
     let constants = numbers.one_of(&[0, 0, 1, 2, 4]);
-    let words = Grown::new(numbers, size, plain, until_like, letters, constants).words;
-    reordered(numbers, &words)
+    let mut grown = Grown::new(numbers, size.saturating_sub(3 * outside as usize).max(1), plain, until_like, letters, constants);
+    if outside {
+        grown.alternate(numbers, plain);
+    }
+    reordered(numbers, &grown.words)
 }
 
 const PLAIN: [u32; 7] = [5, 6, 7, 8, 9, 10, 11];
@@ -175,7 +187,7 @@ const WRITTEN: [u32; 12] = [5, 6, 7, 8, 9, 10, 11, 12, 12, 13, 14, 15];
 /// Words that are grown one by one until all hang together.
 struct Grown {
     words: Vec<Word>,
-    seen: HashSet<(u32, usize, usize)>,
+    seen: HashMap<(u32, usize, usize), usize>,
     loose: Vec<usize>,
     until_like: usize,
     /// Of ten operands, so many are constants.
@@ -184,7 +196,7 @@ struct Grown {
 
 impl Grown {
     fn new(numbers: &mut Numbers, size: usize, plain: bool, until_like: usize, letters: usize, constants: usize) -> Grown {
-        let mut grown = Grown { words: vec![], seen: HashSet::new(), loose: vec![], until_like, constants };
+        let mut grown = Grown { words: vec![], seen: HashMap::new(), loose: vec![], until_like, constants };
         grown.leaf(numbers, letters);
         while grown.words.len() + grown.loose.len() < size + 1 {
             if size < 1000 && numbers.once_in(if grown.words.len() < 6 { 3 } else { 8 }) {
@@ -199,16 +211,61 @@ impl Grown {
             let kind = numbers.one_of(&[5, 6]);
             grown.over(numbers, kind);
         }
+        grown.constants = constants;
         grown
     }
 
-    fn put(&mut self, kind: u32, left: usize, right: usize) {
-        if self.seen.insert((kind, left, right)) {
-            let word = Word::new(kind, left, right);
-            self.loose.retain(|n| !word.operands().contains(n));
-            self.words.push(word);
-            self.loose.push(self.words.len());
+    /// Three more until-like words, each over the one before, of which the middle one is of the other side, so that the rule lies outside
+    /// Delta-2; at times X, or another word beside them. Or two such of each side, joined: where the rule has no others, just inside Delta-2,
+    /// and just outside it under X.
+    fn alternate(&mut self, numbers: &mut Numbers, plain: bool) {
+        let (least, greatest): (&[u32], &[u32]) = if plain { (&[8, 11], &[9, 10]) } else { (&[8, 11, 13], &[9, 10, 14]) };
+        let mut last = self.words.len();
+        if numbers.once_in(4) {
+            let [one, other] = [[least, greatest], [greatest, least]].map(|sides| {
+                let inner = self.over_word(numbers, sides[0], last);
+                self.over_word(numbers, sides[1], inner)
+            });
+            last = self.put(numbers.one_of(&[5, 6]), one, other);
+            if numbers.once_in(2) {
+                self.put(7, 0, last);
+            }
+            return;
         }
+        let sides = if numbers.once_in(2) { [least, greatest, least] } else { [greatest, least, greatest] };
+        for side in sides {
+            last = self.over_word(numbers, side, last);
+            if numbers.once_in(4) {
+                last = self.over_word(numbers, &[5, 6, 7], last);
+            }
+        }
+    }
+
+    /// The number of a word of one of these kinds over this one, and over a constant or any that there was before.
+    fn over_word(&mut self, numbers: &mut Numbers, kinds: &[u32], word: usize) -> usize {
+        let kind = numbers.one_of(kinds);
+        if matches!(kind, 7 | 13 | 14) {
+            return self.put(kind, 0, word);
+        }
+        let other = if numbers.below(10) < self.constants { self.constant(numbers) } else { numbers.between(1, word) };
+        match numbers.once_in(2) {
+            true => self.put(kind, word, other),
+            false => self.put(kind, other, word),
+        }
+    }
+
+    /// The number of a word, which is put where there is none.
+    fn put(&mut self, kind: u32, left: usize, right: usize) -> usize {
+        if let Some(&n) = self.seen.get(&(kind, left, right)) {
+            return n;
+        }
+        let word = Word::new(kind, left, right);
+        self.loose.retain(|n| !word.operands().contains(n));
+        self.words.push(word);
+        let n = self.words.len();
+        self.loose.push(n);
+        self.seen.insert((kind, left, right), n);
+        n
     }
 
     fn leaf(&mut self, numbers: &mut Numbers, letters: usize) {
@@ -217,7 +274,7 @@ impl Grown {
             1 => self.put(2, 0, 0),
             2..=4 => self.put(4, 0, numbers.between(1, letters)),
             _ => self.put(3, 0, numbers.between(1, letters)),
-        }
+        };
     }
 
     /// A word over earlier ones, mostly over such as nothing uses yet.
@@ -234,9 +291,9 @@ impl Grown {
         } else {
             let left = self.operand(numbers, right);
             if numbers.once_in(2) {
-                self.put(kind, left, right)
+                self.put(kind, left, right);
             } else {
-                self.put(kind, right, left)
+                self.put(kind, right, left);
             }
         }
         if until_like && self.words.len() > before && self.until_like != usize::MAX {
@@ -256,11 +313,10 @@ impl Grown {
         }
     }
 
-    /// The number of the word false or true, which is put where there is none.
+    /// The number of the word false or true.
     fn constant(&mut self, numbers: &mut Numbers) -> usize {
         let kind = numbers.one_of(&[1, 2]);
-        self.put(kind, 0, 0);
-        1 + self.words.iter().position(|word| word.kind == kind).expect("it was put")
+        self.put(kind, 0, 0)
     }
 }
 

@@ -2,7 +2,7 @@
 use reference::checks::Refusal;
 use reference::limits::Limits;
 use reference::recording::Recording;
-use reference::steps;
+use reference::steps::{self, Form};
 use reference::word::Word;
 use showrule::{ffi, Tally};
 use std::cell::RefCell;
@@ -16,12 +16,26 @@ pub struct Lent {
     pub failing: usize,
 }
 
+/// A normal form's lent numbers. Whether the form is the source table is a byte here, so that one which is not written, or is neither 0 nor
+/// 1, shows.
+#[derive(Clone, Copy)]
+pub struct Stands {
+    pub in_source: u8,
+    pub length: usize,
+}
+
+impl Stands {
+    fn in_source(&mut self) -> *mut bool {
+        (&raw mut self.in_source).cast()
+    }
+}
+
 pub trait Library {
     fn check(&self, table: &[u32], plain: bool, limit: usize, place: &mut usize) -> u32;
     fn classify(&self, table: &[u32], bytes: &mut [u8], place: &mut usize) -> u32;
     fn text(&self, text: &[u8], limits: Limits, result: &mut [u32], length: &mut usize, place: &mut usize) -> u32;
     fn plain(&self, table: &[u32], limits: Limits, result: &mut [u32], length: &mut usize, place: &mut usize) -> u32;
-    fn normal(&self, table: &[u32], limits: Limits, result: &mut [u32], length: &mut usize, place: &mut usize) -> u32;
+    fn normal(&self, table: &[u32], limits: Limits, result: &mut [u32], stands: &mut Stands, place: &mut usize) -> u32;
     fn dialect(&self, table: &[u32], result: &mut [u32], length: &mut usize, place: &mut usize) -> u32;
     fn form(
         &self,
@@ -29,7 +43,7 @@ pub trait Library {
         limits: Limits,
         plain: &mut [u32],
         result: &mut [u32],
-        length: &mut usize,
+        stands: &mut Stands,
         place: &mut usize,
     ) -> u32;
     #[allow(clippy::too_many_arguments)]
@@ -76,9 +90,10 @@ impl Library for Product {
         unsafe { ffi::showrule_plain(table.as_ptr(), table.len(), w, u, result.as_mut_ptr(), result.len(), length, place) }
     }
 
-    fn normal(&self, table: &[u32], limits: Limits, result: &mut [u32], length: &mut usize, place: &mut usize) -> u32 {
-        let (w, u) = (limits.written, limits.until_like);
-        unsafe { ffi::showrule_normal(table.as_ptr(), table.len(), w, u, result.as_mut_ptr(), result.len(), length, place) }
+    fn normal(&self, table: &[u32], limits: Limits, result: &mut [u32], stands: &mut Stands, place: &mut usize) -> u32 {
+        let (w, u, t, r) = (limits.written, limits.until_like, table.as_ptr(), result.as_mut_ptr());
+        let in_source = stands.in_source();
+        unsafe { ffi::showrule_normal(t, table.len(), w, u, r, result.len(), in_source, &mut stands.length, place) }
     }
 
     fn dialect(&self, table: &[u32], result: &mut [u32], length: &mut usize, place: &mut usize) -> u32 {
@@ -91,12 +106,13 @@ impl Library for Product {
         limits: Limits,
         plain: &mut [u32],
         result: &mut [u32],
-        length: &mut usize,
+        stands: &mut Stands,
         place: &mut usize,
     ) -> u32 {
         let (w, u) = (limits.written, limits.until_like);
-        let (p, r) = (plain.as_mut_ptr(), result.as_mut_ptr());
-        unsafe { ffi::showrule_form(table.as_ptr(), table.len(), w, u, p, plain.len(), r, result.len(), length, place) }
+        let (t, p, r) = (table.as_ptr(), plain.as_mut_ptr(), result.as_mut_ptr());
+        let (in_plain, length) = (stands.in_source(), &mut stands.length);
+        unsafe { ffi::showrule_form(t, table.len(), w, u, p, plain.len(), r, result.len(), in_plain, length, place) }
     }
 
     fn judge(
@@ -164,13 +180,13 @@ impl Library for Product {
     }
 }
 
-type Forms = RefCell<HashMap<(Vec<u32>, Limits), Result<Vec<Word>, Refusal>>>;
+type Made<T> = RefCell<HashMap<(Vec<u32>, Limits), Result<T, Refusal>>>;
 
 /// The reference. The words of a form are made once an input, whatever slices it is written to.
 #[derive(Default)]
 pub struct Reference {
-    plain: Forms,
-    normal: Forms,
+    plain: Made<Vec<Word>>,
+    normal: Made<Option<Vec<Word>>>,
 }
 
 impl Reference {
@@ -178,7 +194,8 @@ impl Reference {
         self.plain.borrow_mut().entry((table.to_vec(), limits)).or_insert_with(|| steps::plain_words(table, limits)).clone()
     }
 
-    pub fn normal_words(&self, table: &[u32], limits: Limits) -> Result<Vec<Word>, Refusal> {
+    /// None where the table is its own form.
+    pub fn normal_words(&self, table: &[u32], limits: Limits) -> Result<Option<Vec<Word>>, Refusal> {
         self.normal.borrow_mut().entry((table.to_vec(), limits)).or_insert_with(|| steps::normal_words(table, limits)).clone()
     }
 }
@@ -195,6 +212,13 @@ fn told<T>(answer: Result<T, Refusal>, place: &mut usize) -> (u32, Option<T>) {
             (refusal.number, None)
         }
     }
+}
+
+fn form_told(answer: Result<Form, Refusal>, stands: &mut Stands, place: &mut usize) -> u32 {
+    let (number, made) = told(answer, place);
+    let form = made.unwrap_or(Form::Result(0));
+    *stands = Stands { in_source: form.is_source().into(), length: form.length() };
+    number
 }
 
 fn length_told(answer: Result<usize, Refusal>, length: &mut usize, place: &mut usize) -> u32 {
@@ -220,8 +244,9 @@ impl Library for Reference {
         length_told(steps::write(self.plain_words(table, limits), result), length, place)
     }
 
-    fn normal(&self, table: &[u32], limits: Limits, result: &mut [u32], length: &mut usize, place: &mut usize) -> u32 {
-        length_told(steps::write(self.normal_words(table, limits), result), length, place)
+    fn normal(&self, table: &[u32], limits: Limits, result: &mut [u32], stands: &mut Stands, place: &mut usize) -> u32 {
+        let made = self.normal_words(table, limits);
+        form_told(made.and_then(|made| steps::hand_back(table, made, result)), stands, place)
     }
 
     fn dialect(&self, table: &[u32], result: &mut [u32], length: &mut usize, place: &mut usize) -> u32 {
@@ -234,11 +259,12 @@ impl Library for Reference {
         limits: Limits,
         plain: &mut [u32],
         result: &mut [u32],
-        length: &mut usize,
+        stands: &mut Stands,
         place: &mut usize,
     ) -> u32 {
         let made = steps::write(self.plain_words(table, limits), plain);
-        length_told(made.and_then(|n| steps::write(self.normal_words(&plain[..n], limits), result)), length, place)
+        let form = made.and_then(|n| steps::hand_back(&plain[..n], self.normal_words(&plain[..n], limits)?, result));
+        form_told(form, stands, place)
     }
 
     fn judge(

@@ -18,7 +18,7 @@ mod texts;
 use input::Input;
 use library::{Library, Product, Reference};
 use numbers::Numbers;
-use run::{compare, Difference};
+use run::{compare, compare_one, Difference};
 use std::collections::BTreeMap;
 use std::process::ExitCode;
 use std::sync::Mutex;
@@ -82,8 +82,10 @@ fn compare_all(inputs: impl Iterator<Item = Input>, report: &Mutex<Report>) {
     answers.into_iter().for_each(|(answer, count): (_, u64)| *report.answers.entry(answer).or_default() += count);
 }
 
+/// The smallest input that differs where this one does first.
 fn smallest_difference(library: &dyn Library, input: Input) -> (Input, Box<Difference>) {
-    let differs = |input: &Input| compare(library, &Reference::default(), input).err();
+    let first = compare(library, &Reference::default(), &input).expect_err("it differs");
+    let differs = |input: &Input| compare_one(library, &Reference::default(), input, first.which).err();
     let smallest = shrink::smallest(input, |smaller| differs(smaller).is_some());
     let difference = differs(&smallest).expect("it still differs");
     (smallest, difference)

@@ -1,6 +1,6 @@
 //! Runs every step of a library on an input, and says where two libraries differ.
 use crate::input::Input;
-use crate::library::{Lent, Library};
+use crate::library::{Lent, Library, Stands};
 use reference::dialect::convert;
 use reference::edges::headed;
 use reference::forest::{Forest, Tree};
@@ -25,6 +25,8 @@ pub struct Seen {
 }
 
 pub struct Difference {
+    /// Which of all that is compared.
+    pub which: usize,
     product: Seen,
     reference: Seen,
 }
@@ -59,23 +61,46 @@ fn held<T: Copy + Into<u64>>(memory: &Memory<T>) -> Vec<u64> {
 
 /// A lent number before a call.
 const BEFORE: usize = 0x5A5A_5A5A;
+const STOOD: Stands = Stands { in_source: 0x5A, length: BEFORE };
 
-/// Everything that a library answers to an input.
-fn seen(library: &dyn Library, input: &Input) -> Vec<Seen> {
-    vec![
-        check(library, input, "check", input.plain_only, input.limit),
-        check(library, input, "check, written", false, 64),
-        check(library, input, "check, plain", true, 130),
-        classify(library, input),
-        text(library, input),
-        plain(library, input),
-        normal(library, input),
-        dialect(library, input),
-        form(library, input),
-        judge(library, input, "judge", input.recording()),
-        row(library, input, "row", input.recording()),
-        recordings(library, input, "recordings", input.recording()),
-    ]
+/// What is compared: what a library does with an input, and what that has to be.
+type Compared = fn(&dyn Library, &dyn Library, &Input) -> (Seen, Seen);
+
+/// A step of both libraries.
+macro_rules! both {
+    ($step:expr) => {
+        |product, reference, input| ($step(product, input), $step(reference, input))
+    };
+}
+
+/// Every step of both libraries; then what has to be so of a library by itself.
+const ALL: [Compared; 20] = [
+    both!(|library: &dyn Library, input: &Input| check(library, input, "check", input.plain_only, input.limit)),
+    both!(|library, input| check(library, input, "check, written", false, 64)),
+    both!(|library, input| check(library, input, "check, plain", true, 130)),
+    both!(classify),
+    both!(text),
+    both!(plain),
+    both!(normal),
+    both!(dialect),
+    both!(form),
+    both!(|library, input: &Input| judge(library, input, "judge", input.recording())),
+    both!(|library, input: &Input| row(library, input, "row", input.recording())),
+    both!(|library, input: &Input| recordings(library, input, "recordings", input.recording())),
+    |product, _, input| (agreement(product, input), so(AGREEMENT, &AGREED)),
+    |product, _, input| (round_trip(product, input), so(ROUND_TRIP, &CAME_BACK)),
+    |product, _, input| (telling(product, input), so(TELLING, &[1])),
+    |product, _, input| (conversion(product, input), so(CONVERSION, &CONVERTED)),
+    |_, reference, input| (conversion(reference, input), so(CONVERSION, &CONVERTED)),
+    // the judge, the row call and the comparison over samples that differ above the driven bits alone answer and leave what they did
+    |product, _, input| redriven(input, |recording| judge(product, input, REDRIVEN[0], recording)),
+    |product, _, input| redriven(input, |recording| row(product, input, REDRIVEN[1], recording)),
+    |product, _, input| redriven(input, |recording| recordings(product, input, REDRIVEN[2], recording)),
+];
+
+/// What has to be so.
+fn so(step: &'static str, lent: &[u64]) -> Seen {
+    Seen { step, number: 0, lent: lent.to_vec(), memory: vec![] }
 }
 
 fn check(library: &dyn Library, input: &Input, step: &'static str, plain: bool, limit: usize) -> Seen {
@@ -106,11 +131,14 @@ fn plain(library: &dyn Library, input: &Input) -> Seen {
     Seen { step: "plain form", number, lent: vec![made as u64, place as u64], memory: held(&result) }
 }
 
+/// The table is lent for writing too, and keeps its words.
 fn normal(library: &dyn Library, input: &Input) -> Seen {
-    let mut result = words(input.normal);
-    let (mut made, mut place) = (BEFORE, BEFORE);
-    let number = library.normal(&input.table, input.limits, result.slice(), &mut made, &mut place);
-    Seen { step: "normal form", number, lent: vec![made as u64, place as u64], memory: held(&result) }
+    let (source, mut result) = (input.table.clone(), words(input.normal));
+    let (mut stands, mut place) = (STOOD, BEFORE);
+    let number = library.normal(&source, input.limits, result.slice(), &mut stands, &mut place);
+    let memory = held(&result).into_iter().chain(source.iter().map(|&word| word.into())).collect();
+    let step = if stands.in_source == 1 { "normal form, the source" } else { "normal form" };
+    Seen { step, number, lent: vec![stands.in_source.into(), stands.length as u64, place as u64], memory }
 }
 
 fn dialect(library: &dyn Library, input: &Input) -> Seen {
@@ -122,10 +150,11 @@ fn dialect(library: &dyn Library, input: &Input) -> Seen {
 
 fn form(library: &dyn Library, input: &Input) -> Seen {
     let (mut plain, mut result) = (words(input.form_plain), words(input.form));
-    let (mut made, mut place) = (BEFORE, BEFORE);
-    let number = library.form(&input.table, input.limits, plain.slice(), result.slice(), &mut made, &mut place);
-    let memory = [held(&plain), held(&result)].concat();
-    Seen { step: "whole way", number, lent: vec![made as u64, place as u64], memory }
+    let (mut stands, mut place) = (STOOD, BEFORE);
+    let number = library.form(&input.table, input.limits, plain.slice(), result.slice(), &mut stands, &mut place);
+    let step = if stands.in_source == 1 { "whole way, the plain form" } else { "whole way" };
+    let lent = vec![stands.in_source.into(), stands.length as u64, place as u64];
+    Seen { step, number, lent, memory: [held(&plain), held(&result)].concat() }
 }
 
 fn judge(library: &dyn Library, input: &Input, step: &'static str, recording: Recording) -> Seen {
@@ -181,20 +210,23 @@ fn telling(library: &dyn Library, input: &Input) -> Seen {
         let letters = 1..=u32::try_from(input.driven).expect("at most 32");
         told = letters.map(under_next).any(|rule| holds(&rule, first) != holds(&rule, second));
     }
-    Seen { step: TELLING, number: 0, lent: vec![told.into()], memory: vec![] }
+    so(TELLING, &[told.into()])
 }
 
 const TELLING: &str = "recordings that are the same, or a letter under X that tells them apart";
 
-/// Demand 3, tried: whether the library's form of the rule holds where the rule does, and is in Delta-2, by its own judge and classes.
+/// Demand 3, tried: whether the library's form of the rule holds where the rule does, and is in Delta-2, by its own judge and classes; and
+/// whether it is the plain form where that is in Delta-2, and only there.
 fn agreement(library: &dyn Library, input: &Input) -> Seen {
     let mut lent = AGREED.to_vec();
-    let (number, made, _, result) = whole_way(library, &input.table, input.limits);
-    if number == 0 && (1..=4_096).contains(&input.samples.len()) && made * input.samples.len() < 400_000 {
-        let class = *classes(library, &result[..made]).last().expect("a form has a word");
-        lent = vec![same_truth(library, input, &result[..made]) as u64, (class >> 6 & 1).into()];
+    let way = whole_way(library, &input.table, input.limits);
+    let form = &way.form;
+    if way.number == 0 && (1..=4_096).contains(&input.samples.len()) && form.len() * input.samples.len() < 400_000 {
+        let delta_2 = |table: &[u32]| classes(library, table).last().expect("a table has a word") >> 6 & 1 == 1;
+        let own = way.in_plain == u8::from(delta_2(&way.plain));
+        lent = [same_truth(library, input, form), delta_2(form), own].map(u64::from).to_vec();
     }
-    Seen { step: AGREEMENT, number: 0, lent, memory: vec![] }
+    so(AGREEMENT, &lent)
 }
 
 /// Whether a table holds where the input's does, over a recording that drives every letter of the input's table, and no other where the
@@ -230,7 +262,7 @@ fn conversion(library: &dyn Library, input: &Input) -> Seen {
         let truth = !judged || same_truth(library, input, &converted);
         lent = [free, again, free && classes_kept(library, &input.table, &converted), truth].map(u64::from).to_vec();
     }
-    Seen { step: CONVERSION, number: 0, lent, memory: vec![] }
+    so(CONVERSION, &lent)
 }
 
 fn converted(library: &dyn Library, table: &[u32]) -> Option<Vec<u32>> {
@@ -257,16 +289,10 @@ fn highest_letter(words: &[u32]) -> usize {
     letters.map(|word| (word & 0x3FFF) as usize).max().unwrap_or(0)
 }
 
-/// The judge, the row call and the comparison over samples that differ above the driven bits alone: they answer and leave what they did
-/// before.
-fn redriven(library: &dyn Library, input: &Input) -> [(Seen, Seen); 3] {
+/// What is seen over the samples with other bits above the driven ones, and over those of the input.
+fn redriven(input: &Input, seen: impl Fn(Recording) -> Seen) -> (Seen, Seen) {
     let samples = input.redriven();
-    let other = Recording { samples: &samples, ..input.recording() };
-    [
-        (judge(library, input, REDRIVEN[0], other), judge(library, input, REDRIVEN[0], input.recording())),
-        (row(library, input, REDRIVEN[1], other), row(library, input, REDRIVEN[1], input.recording())),
-        (recordings(library, input, REDRIVEN[2], other), recordings(library, input, REDRIVEN[2], input.recording())),
-    ]
+    (seen(Recording { samples: &samples, ..input.recording() }), seen(input.recording()))
 }
 
 const REDRIVEN: [&str; 3] = [
@@ -295,46 +321,56 @@ fn round_trip(library: &dyn Library, input: &Input) -> Seen {
         let same = whole_way(library, table, limits) == whole_way(library, read, limits);
         lent = vec![as_printed as u64, back as u64, same as u64];
     }
-    Seen { step: ROUND_TRIP, number: 0, lent, memory: vec![] }
+    so(ROUND_TRIP, &lent)
 }
 
-/// Number, length, place and words of a table's form.
-fn whole_way(library: &dyn Library, table: &[u32], limits: Limits) -> (u32, usize, usize, Vec<u32>) {
+/// What comes of a table's whole way with all the room there is.
+#[derive(PartialEq)]
+struct Way {
+    number: u32,
+    place: usize,
+    in_plain: u8,
+    plain: Vec<u32>,
+    form: Vec<u32>,
+}
+
+fn whole_way(library: &dyn Library, table: &[u32], limits: Limits) -> Way {
     let (mut plain, mut result) = (vec![0; 1 + Limits::HIGHEST.plain()], vec![0; 1 + MOST_WORDS]);
-    let (mut made, mut place) = (0, 0);
-    let number = library.form(table, limits, &mut plain, &mut result, &mut made, &mut place);
-    (number, made, place, result)
+    let (mut stands, mut place) = (STOOD, BEFORE);
+    let number = library.form(table, limits, &mut plain, &mut result, &mut stands, &mut place);
+    plain.truncate(1 + (plain[0] & 0x3FFF) as usize);
+    let form = if stands.in_source == 1 { &plain } else { &result }.iter().take(stands.length).copied().collect();
+    Way { number, place, in_plain: stands.in_source, plain, form }
 }
 
 const ROUND_TRIP: &str = "printed and read back, same form";
 const CAME_BACK: [u64; 3] = [1, 1, 1];
 
-const AGREEMENT: &str = "rule and form agree, form in Delta-2";
-const AGREED: [u64; 2] = [1, 1];
+const AGREEMENT: &str = "rule and form agree, form in Delta-2, plain form where that is";
+const AGREED: [u64; 3] = [1, 1, 1];
 
-/// The number that each step answered, or the first step at which the two differ.
+/// The number that each step answered, or the first difference.
 pub fn compare(
     product: &dyn Library,
     reference: &dyn Library,
     input: &Input,
 ) -> Result<Vec<(&'static str, u32)>, Box<Difference>> {
-    let agreed = Seen { step: AGREEMENT, number: 0, lent: AGREED.to_vec(), memory: vec![] };
-    let came_back = Seen { step: ROUND_TRIP, number: 0, lent: CAME_BACK.to_vec(), memory: vec![] };
-    let as_said = || Seen { step: CONVERSION, number: 0, lent: CONVERTED.to_vec(), memory: vec![] };
-    let told = Seen { step: TELLING, number: 0, lent: vec![1], memory: vec![] };
-    let of_product =
-        [(agreement(product, input), agreed), (round_trip(product, input), came_back), (telling(product, input), told)];
-    let of_both = [(conversion(product, input), as_said()), (conversion(reference, input), as_said())];
-    let steps = seen(product, input).into_iter().zip(seen(reference, input)).chain(of_product).chain(of_both);
-    let steps = steps.chain(redriven(product, input));
-    let same = |(product, reference): (Seen, Seen)| {
-        if product == reference {
-            Ok((product.step, product.number))
-        } else {
-            Err(Box::new(Difference { product, reference }))
-        }
-    };
-    steps.map(same).collect()
+    (0..ALL.len()).map(|which| compare_one(product, reference, input, which)).collect()
+}
+
+/// The same of one of all.
+pub fn compare_one(
+    product: &dyn Library,
+    reference: &dyn Library,
+    input: &Input,
+    which: usize,
+) -> Result<(&'static str, u32), Box<Difference>> {
+    let (product, reference) = ALL[which](product, reference, input);
+    if product == reference {
+        Ok((product.step, product.number))
+    } else {
+        Err(Box::new(Difference { which, product, reference }))
+    }
 }
 
 impl fmt::Display for Difference {

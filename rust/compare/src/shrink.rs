@@ -3,6 +3,7 @@ use crate::generate::{lengths, Lengths};
 use crate::input::Input;
 use reference::edges::headed;
 use reference::header::words;
+use reference::limits::Limits;
 use reference::steps::Tally;
 use reference::word::Word;
 
@@ -67,6 +68,10 @@ const SIZES: [fn(&mut Input) -> &mut usize; 11] = [
     |i| &mut i.limit,
 ];
 
+/// The smallest rules outside Delta-2: U, R and U over a letter, and R, U and R.
+const OUTSIDE: [[u32; 4]; 2] =
+    [[0x3000_0001, 0x8000_4001, 0xA000_8002, 0x8000_C003], [0x3000_0001, 0xA000_4001, 0x8000_8002, 0xA000_C003]];
+
 /// Changes that make an input smaller in one way, the boldest first.
 fn changes(input: &Input) -> Vec<Change> {
     let mut all: Vec<Change> = Vec::new();
@@ -77,6 +82,18 @@ fn changes(input: &Input) -> Vec<Change> {
     for keep in [0, n / 2, n * 3 / 4] {
         with(Box::new(move |i| i.table.truncate(1 + keep)));
     }
+    // single steps don't lead from each rule outside Delta-2 to one of these, nor from any two loops to these
+    for words in OUTSIDE.into_iter().filter(|words| n > words.len() && input.table == headed(self::words(&input.table))) {
+        with(Box::new(move |i| i.table = headed(&words)));
+        with(Box::new(move |i| {
+            (i.table, i.limits) = (headed(&words), Limits::DESK);
+            (i.form_plain, i.normal, i.form) = (40, 40, 40);
+        }));
+    }
+    with(Box::new(|i| {
+        (i.samples, i.start, i.driven) = (vec![0, 0, 1], 0, 1);
+        (i.others, i.other_start, i.other_driven) = (vec![0, 0, 1, 0], 0, 1);
+    }));
     for keep in [0, l / 2, l * 3 / 4] {
         with(Box::new(move |i| i.samples.truncate(keep)));
     }

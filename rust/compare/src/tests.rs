@@ -1,7 +1,7 @@
 //! Libraries with a fault: each is found, and the input that shows it is made small.
 use crate::generate;
 use crate::input::Input;
-use crate::library::{Lent, Library, Reference};
+use crate::library::{Lent, Library, Reference, Stands};
 use crate::numbers::Numbers;
 use crate::run::compare;
 use crate::smallest_difference;
@@ -13,7 +13,8 @@ use reference::header::{count, words};
 use reference::limits::Limits;
 use reference::listing::{list, needed};
 use reference::recording::Recording;
-use reference::steps::{unfolded, write};
+use reference::steps::{is_delta_2, normal_words, plain_words, rewritten_words, unfolded, write};
+use reference::word::MOST_WORDS;
 use showrule::Tally;
 use std::collections::BTreeSet;
 
@@ -57,6 +58,13 @@ enum Fault {
     OneRoundOfEach,
     UndrivenCompared,
     CountsFirst,
+    Delta2Rewritten,
+    Delta2BySides,
+    Delta2Written,
+    Delta2Limited,
+    Delta2Measured,
+    PlaceOfFormUnwritten,
+    PlainFormCopied,
 }
 
 impl Faulty {
@@ -66,6 +74,37 @@ impl Faulty {
             return Limits::DESK;
         }
         limits
+    }
+}
+
+impl Faulty {
+    /// What the fault makes of a table that is its own form.
+    fn handed_back(&self, table: &[u32], limits: Limits, result: &mut [u32], stands: &mut Stands, place: &mut usize) -> u32 {
+        let mut refused = |number: u32, at: usize| {
+            (*stands, *place) = (Stands { in_source: 0, length: 0 }, at);
+            number
+        };
+        let over = until_like(words(table)).get(limits.until_like).copied();
+        let rewrites = match self.fault {
+            Fault::Delta2Rewritten => true,
+            // in neither Sigma-2 nor Pi-2
+            Fault::Delta2BySides => table[0] >> 14 & 0b011_0000 == 0,
+            _ => false,
+        };
+        match (self.fault, over) {
+            (Fault::Delta2Limited, Some(over)) => return refused(11, over),
+            (Fault::Delta2Measured, _) if table.len() > result.len() => {
+                result.fill(0);
+                return refused(12, 0);
+            }
+            (Fault::Delta2Written, _) if table.len() <= result.len() => result[..table.len()].copy_from_slice(table),
+            _ if rewrites => match write(rewritten_words(table, limits), result) {
+                Ok(length) => *stands = Stands { in_source: 0, length },
+                Err(refusal) => return refused(refusal.number, refusal.place),
+            },
+            _ => {}
+        }
+        0
     }
 }
 
@@ -117,8 +156,10 @@ impl Library for Faulty {
             limits.written = limits.written.max(64);
         }
         let number = self.right.plain(table, limits, result, words, place);
-        if self.fault == Fault::LimitsAfterTable && number == 25 && table.is_empty() {
-            return 1;
+        if self.fault == Fault::LimitsAfterTable && number == 25 {
+            // the table's own refusal, where it has one
+            let checked = self.right.check(table, false, MOST_WORDS, place);
+            return if checked == 0 { number } else { checked };
         }
         if self.fault == Fault::RefusalUntouched && number == 12 {
             result.copy_from_slice(&before);
@@ -132,19 +173,24 @@ impl Library for Faulty {
         number
     }
 
-    fn normal(&self, table: &[u32], limits: Limits, result: &mut [u32], words: &mut usize, place: &mut usize) -> u32 {
-        let number = self.right.normal(table, self.limits(limits), result, words, place);
+    fn normal(&self, table: &[u32], limits: Limits, result: &mut [u32], stands: &mut Stands, place: &mut usize) -> u32 {
+        let before = stands.in_source;
+        let number = self.right.normal(table, self.limits(limits), result, stands, place);
+        if number == 0 && stands.in_source == 1 {
+            return self.handed_back(table, limits, result, stands, place);
+        }
+        let length = stands.length;
         if number == 0 && matches!(self.fault, Fault::NotFolded | Fault::UnfoldedMeasured) {
             let (forest, form) = unfolded(table, limits).expect("it has a form");
             let mut unfolded = vec![0; result.len()];
             match write(Ok(list(&forest, form)), &mut unfolded) {
                 Err(refusal) => {
-                    (*words, *place) = (0, refusal.place);
+                    (stands.length, *place) = (0, refusal.place);
                     result.fill(0);
                     return refusal.number;
                 }
                 Ok(length) if self.fault == Fault::NotFolded => {
-                    *words = length;
+                    stands.length = length;
                     result[..length].copy_from_slice(&unfolded[..length]);
                 }
                 Ok(_) => {}
@@ -153,12 +199,15 @@ impl Library for Faulty {
         if self.fault == Fault::LastOverTheLimit && number == 11 {
             *place = *until_like(&table[1..]).last().unwrap();
         }
-        if self.fault == Fault::WordPastTheEnd && number == 0 && *words < result.len() {
-            result[*words] = 0;
+        if self.fault == Fault::WordPastTheEnd && number == 0 && length < result.len() {
+            result[length] = 0;
         }
-        if self.fault == Fault::GuardWritten && number == 0 && *words == result.len() {
+        if self.fault == Fault::GuardWritten && number == 0 && length == result.len() {
             // SAFETY: the comparison lends the middle of a larger memory
             unsafe { *result.as_mut_ptr().add(result.len()) = 0 };
+        }
+        if self.fault == Fault::PlaceOfFormUnwritten && number == 0 {
+            stands.in_source = before;
         }
         number
     }
@@ -178,10 +227,16 @@ impl Library for Faulty {
         limits: Limits,
         plain: &mut [u32],
         result: &mut [u32],
-        words: &mut usize,
+        stands: &mut Stands,
         place: &mut usize,
     ) -> u32 {
-        self.right.form(table, self.limits(limits), plain, result, words, place)
+        let number = self.right.form(table, self.limits(limits), plain, result, stands, place);
+        // a copy of the plain form
+        if self.fault == Fault::PlainFormCopied && stands.in_source == 1 && stands.length <= result.len() {
+            result[..stands.length].copy_from_slice(&plain[..stands.length]);
+            stands.in_source = 0;
+        }
+        number
     }
 
     fn judge(
@@ -272,54 +327,117 @@ fn found(fault: Fault) -> Input {
     smallest_difference(&faulty, input).0
 }
 
+const FAULTS: [Fault; 39] = [
+    Fault::RefusalUntouched,
+    Fault::WordPastTheEnd,
+    Fault::PlaceOneLow,
+    Fault::RowNotLast,
+    Fault::HeldForgotten,
+    Fault::FirstDesk,
+    Fault::AnyFull,
+    Fault::FullBeforeDesk,
+    Fault::GuardWritten,
+    Fault::TextPlaceLate,
+    Fault::WordsBeforeGrammar,
+    Fault::HighestUndriven,
+    Fault::UndrivenRead,
+    Fault::UndrivenCounted,
+    Fault::NotRenumbered,
+    Fault::CountBeforeLimit,
+    Fault::ClassUnread,
+    Fault::KindUnread,
+    Fault::HeaderNumbered,
+    Fault::HeaderWithoutClass,
+    Fault::HeaderLast,
+    Fault::LimitsUnread,
+    Fault::LimitsAfterTable,
+    Fault::UntilLikeUnreadForText,
+    Fault::AtLeastProgramsWords,
+    Fault::LastOverTheLimit,
+    Fault::NotFolded,
+    Fault::UnfoldedMeasured,
+    Fault::FirstLoopOnly,
+    Fault::OneRoundOfEach,
+    Fault::UndrivenCompared,
+    Fault::CountsFirst,
+    Fault::Delta2Rewritten,
+    Fault::Delta2BySides,
+    Fault::Delta2Written,
+    Fault::Delta2Limited,
+    Fault::Delta2Measured,
+    Fault::PlaceOfFormUnwritten,
+    Fault::PlainFormCopied,
+];
+
+/// The most words of the smallest table that shows a fault, its header counted.
+fn most_words(fault: Fault) -> usize {
+    match fault {
+        // three until-like words over a letter, outside Delta-2
+        Fault::WordPastTheEnd | Fault::GuardWritten | Fault::LastOverTheLimit => 5,
+        Fault::NotFolded | Fault::UnfoldedMeasured | Fault::PlaceOfFormUnwritten => 5,
+        // two of them on either side of an and
+        Fault::Delta2BySides => 7,
+        _ => 4,
+    }
+}
+
+fn is_found_and_made_small(fault: Fault) {
+    let smallest = found(fault);
+    assert!(smallest.table.len() <= most_words(fault), "{smallest}");
+    // only faults that a wrong header shows have one
+    let of_header = matches!(fault, Fault::CountBeforeLimit | Fault::ClassUnread | Fault::KindUnread);
+    let right = smallest.table.is_empty() || smallest.table == headed(words(&smallest.table));
+    assert!(of_header != right, "{smallest}");
+    // two loops of which neither is in step with the other need more
+    let loops = matches!(fault, Fault::FirstLoopOnly | Fault::OneRoundOfEach);
+    assert!(smallest.samples.len() <= if loops { 4 } else { 1 }, "{smallest}");
+    assert!(smallest.others.len() <= if loops { 4 } else { 1 }, "{smallest}");
+    assert!(smallest.text.len() <= 2, "{smallest}");
+}
+
 #[test]
 fn faults_are_found_and_made_small() {
-    for fault in [
-        Fault::RefusalUntouched,
-        Fault::WordPastTheEnd,
-        Fault::PlaceOneLow,
-        Fault::RowNotLast,
-        Fault::HeldForgotten,
-        Fault::FirstDesk,
-        Fault::AnyFull,
-        Fault::FullBeforeDesk,
-        Fault::GuardWritten,
-        Fault::TextPlaceLate,
-        Fault::WordsBeforeGrammar,
-        Fault::HighestUndriven,
-        Fault::UndrivenRead,
-        Fault::UndrivenCounted,
-        Fault::NotRenumbered,
-        Fault::CountBeforeLimit,
-        Fault::ClassUnread,
-        Fault::KindUnread,
-        Fault::HeaderNumbered,
-        Fault::HeaderWithoutClass,
-        Fault::HeaderLast,
-        Fault::LimitsUnread,
-        Fault::LimitsAfterTable,
-        Fault::UntilLikeUnreadForText,
-        Fault::AtLeastProgramsWords,
-        Fault::LastOverTheLimit,
-        Fault::NotFolded,
-        Fault::UnfoldedMeasured,
-        Fault::FirstLoopOnly,
-        Fault::OneRoundOfEach,
-        Fault::UndrivenCompared,
-        Fault::CountsFirst,
-    ] {
-        let smallest = found(fault);
-        // three words and the header
-        assert!(smallest.table.len() <= 4, "{smallest}");
-        // only faults that a wrong header shows have one
-        let of_header = matches!(fault, Fault::CountBeforeLimit | Fault::ClassUnread | Fault::KindUnread);
-        let right = smallest.table.is_empty() || smallest.table == headed(words(&smallest.table));
-        assert!(of_header != right, "{smallest}");
-        // two loops of which neither is in step with the other need more
-        let loops = matches!(fault, Fault::FirstLoopOnly | Fault::OneRoundOfEach);
-        assert!(smallest.samples.len() <= if loops { 4 } else { 1 }, "{smallest}");
-        assert!(smallest.others.len() <= if loops { 4 } else { 1 }, "{smallest}");
-        assert!(smallest.text.len() <= 2, "{smallest}");
+    FAULTS.into_iter().for_each(is_found_and_made_small);
+}
+
+/// How often random tables come to a form, in the normal-form step: those that are handed back, of these those with more until-like words
+/// than the limit and those in neither Sigma-2 nor Pi-2; and those that are rewritten.
+#[derive(Default, Debug)]
+struct Forms {
+    handed_back: u32,
+    over_the_limit: u32,
+    between_the_sides: u32,
+    rewritten: u32,
+}
+
+impl Forms {
+    fn count(&mut self, table: &[u32], limits: Limits) {
+        match normal_words(table, limits) {
+            Ok(None) => {
+                self.handed_back += 1;
+                self.over_the_limit += u32::from(until_like(words(table)).len() > limits.until_like);
+                self.between_the_sides += u32::from(table[0] >> 14 & 0b011_0000 == 0);
+            }
+            Ok(Some(_)) => self.rewritten += 1,
+            Err(_) => {}
+        }
+    }
+}
+
+#[test]
+fn rules_inside_and_outside_delta_2_come_up() {
+    let (mut plain, mut written) = (Forms::default(), Forms::default());
+    for n in 0..2_000 {
+        let input = generate::input(&mut Numbers::new(2, n));
+        plain.count(&input.table, input.limits);
+        if let Ok(form) = plain_words(&input.table, input.limits) {
+            let form: Vec<u32> = form.iter().map(|word| word.bits()).collect();
+            written.count(&headed(&form), input.limits);
+        }
+    }
+    for forms in [plain, written] {
+        assert!(forms.handed_back >= 150 && forms.rewritten >= 80, "{forms:?}");
+        assert!(forms.over_the_limit >= 10 && forms.between_the_sides >= 10, "{forms:?}");
     }
 }
 
@@ -357,6 +475,9 @@ fn clauses_of_folding_come_up() {
     for n in 0..3_000 {
         let input = generate::input(&mut Numbers::new(1, n));
         let Ok((mut forest, form)) = unfolded(&input.table, Limits::DESK) else { continue };
+        if is_delta_2(words(&input.table)) {
+            continue;
+        }
         let trees = needed(&forest, form);
         let folded = fold(&mut forest, form);
         match forest.node(folded) {

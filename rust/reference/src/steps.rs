@@ -1,7 +1,7 @@
 //! Every step as a desk calls it: the reply, and what each lent slice holds afterwards, refused calls included. Every table, handed in or
 //! made, has its header in front. The steps that make a written, a plain or a normal form take the limits of the house.
 use crate::checks::{fits, until_like, Faults, Refusal};
-use crate::class::Classes;
+use crate::class::{Class, Classes};
 use crate::dialect::convert;
 use crate::fold::fold;
 use crate::forest::{Forest, Tree};
@@ -72,7 +72,7 @@ pub fn plain_words(table: &[u32], limits: Limits) -> Result<Vec<Word>, Refusal> 
     Ok(list(&forest, form))
 }
 
-/// The normal form as document 01 builds it, before it is folded, by every check but 12.
+/// The rule rewritten as document 01 says, before it is folded, whatever its class, by every check but 12.
 pub fn unfolded(table: &[u32], limits: Limits) -> Result<(Forest, Tree), Refusal> {
     limits.permitted()?;
     Faults::default().table(table, true, limits.plain()).until_like(words(table), limits.until_like).first()?;
@@ -83,11 +83,29 @@ pub fn unfolded(table: &[u32], limits: Limits) -> Result<(Forest, Tree), Refusal
     Ok((forest, form))
 }
 
-/// The words of the normal form, folded and then numbered (document 02, N8), by every check but 12.
-pub fn normal_words(table: &[u32], limits: Limits) -> Result<Vec<Word>, Refusal> {
+/// The words of the rule rewritten, folded and then numbered (document 02, N8), whatever its class, by every check but 12.
+pub fn rewritten_words(table: &[u32], limits: Limits) -> Result<Vec<Word>, Refusal> {
     let (mut forest, form) = unfolded(table, limits)?;
     let folded = fold(&mut forest, form);
     Ok(list(&forest, folded))
+}
+
+/// What the normal-form step writes (document 02, N11): nothing where the plain table's last word is Delta-2, since the answer is the
+/// source table itself; else the words of the rule rewritten. By every check but 12; 11 is one of those in the second case only.
+pub fn normal_words(table: &[u32], limits: Limits) -> Result<Option<Vec<Word>>, Refusal> {
+    limits.permitted()?;
+    check(table, true, limits.plain())?;
+    if is_delta_2(words(table)) {
+        return Ok(None);
+    }
+    rewritten_words(table, limits).map(Some)
+}
+
+/// Whether the last word of a plain table that passes the checks is Delta-2.
+pub fn is_delta_2(words: &[u32]) -> bool {
+    let mut forest = Forest::new();
+    let trees = forest.of_words(words);
+    Classes::of(&forest, &trees).has(Class::Delta(2), trees[trees.len() - 1])
 }
 
 /// The words of the table in the dialect without W and M (document 02, N4), by every check but 12.
@@ -118,16 +136,51 @@ pub fn plain(table: &[u32], limits: Limits, result: &mut [u32]) -> Result<usize,
     write(plain_words(table, limits), result)
 }
 
-pub fn normal(table: &[u32], limits: Limits, result: &mut [u32]) -> Result<usize, Refusal> {
-    write(normal_words(table, limits), result)
+/// Where a form stands, and its length: it is the source table itself, in the slice that has it, or the front part of the result.
+#[derive(Clone, Copy, PartialEq, Eq, Debug)]
+pub enum Form {
+    Source(usize),
+    Result(usize),
+}
+
+impl Form {
+    pub fn is_source(self) -> bool {
+        matches!(self, Form::Source(_))
+    }
+
+    pub fn length(self) -> usize {
+        let (Form::Source(length) | Form::Result(length)) = self;
+        length
+    }
+
+    /// The form, a part of the slice that has the source table at its front or of the result.
+    pub fn part<'a>(self, source: &'a [u32], result: &'a [u32]) -> &'a [u32] {
+        match self {
+            Form::Source(length) => &source[..length],
+            Form::Result(length) => &result[..length],
+        }
+    }
+}
+
+pub fn normal(table: &[u32], limits: Limits, result: &mut [u32]) -> Result<Form, Refusal> {
+    hand_back(table, normal_words(table, limits)?, result)
+}
+
+/// The source table, or the words that are made of it in the result: check 12 is for these alone.
+pub fn hand_back(table: &[u32], made: Option<Vec<Word>>, result: &mut [u32]) -> Result<Form, Refusal> {
+    match made {
+        None => Ok(Form::Source(table.len())),
+        Some(words) => write(Ok(words), result).map(Form::Result),
+    }
 }
 
 pub fn dialect(table: &[u32], result: &mut [u32]) -> Result<usize, Refusal> {
     write(dialect_words(table), result)
 }
 
-/// The whole way: the normal-form step is handed exactly the table that the plain-form step answered, its header too.
-pub fn form(table: &[u32], limits: Limits, plain_room: &mut [u32], result: &mut [u32]) -> Result<usize, Refusal> {
+/// The whole way: the normal-form step is handed exactly the table that the plain-form step answered, its header too, which is the source
+/// table of the form.
+pub fn form(table: &[u32], limits: Limits, plain_room: &mut [u32], result: &mut [u32]) -> Result<Form, Refusal> {
     let length = plain(table, limits, plain_room)?;
     normal(&plain_room[..length], limits, result)
 }

@@ -5,10 +5,11 @@ use reference::limits::Limits;
 use reference::recording::Recording;
 use reference::steps::*;
 
-fn made(step: impl Fn(&[u32], Limits, &mut [u32]) -> Result<usize, Refusal>, table: &[u32]) -> Vec<u32> {
-    let mut result = vec![7; 40];
-    let length = step(table, Limits::DESK, &mut result).expect("accepted");
-    result[..length].to_vec()
+/// The normal form of a table.
+fn form_of(table: &[u32]) -> Vec<u32> {
+    let mut result = [7; 40];
+    let form = normal(table, Limits::DESK, &mut result).expect("accepted");
+    form.part(table, &result).to_vec()
 }
 
 /// The moments at which a rule holds; all letters are driven.
@@ -28,12 +29,16 @@ fn class(table: &[u32]) -> u8 {
 
 #[test]
 fn forms() {
-    assert_eq!(made(normal, &[0x001FC001, 0x30000001]), [0x001FC001, 0x30000001]);
+    assert_eq!(form_of(&[0x001FC001, 0x30000001]), [0x001FC001, 0x30000001]);
+    // its three words (document 02, N11), where document 01 has it rewritten
     let finally = [0x001E8003, 0x20000000, 0x30000001, 0x80004002];
-    let form = [0x20000000, 0x30000001, 0x80004002, 0x10000000, 0x80004003, 0xA0010005, 0x5000C006, 0x6000C007];
-    assert_eq!(made(normal, &finally), [&[0x00180008], &form[..]].concat());
+    assert_eq!(form_of(&finally), finally);
+    let rewritten: Vec<u32> = rewritten_words(&finally, Limits::DESK).expect("accepted").iter().map(|w| w.bits()).collect();
+    assert_eq!(rewritten, [0x20000000, 0x30000001, 0x80004002, 0x10000000, 0x80004003, 0xA0010005, 0x5000C006, 0x6000C007]);
     let not_finally = [0x00000003, 0x30000001, 0xD0000001, 0xC0000002];
-    assert_eq!(made(plain, &not_finally), [0x001F0003, 0x10000000, 0x40000001, 0xA0004002]);
+    let mut result = [7; 5];
+    assert_eq!(plain(&not_finally, Limits::DESK, &mut result), Ok(4));
+    assert_eq!(result, [0x001F0003, 0x10000000, 0x40000001, 0xA0004002, 7]);
 }
 
 #[test]

@@ -1,10 +1,14 @@
 //! Document 02's sentences about texts (N1), driven letters (N3), the dialect without W and M (N4), the header (N5), the limits that a
-//! house sets (N6), the order of the parts (N7), folding (N8) and the tallies (N9), held to the reference itself.
+//! house sets (N6), the order of the parts (N7), folding (N8), the tallies (N9), two recordings (N10) and rules already in the form (N11), held
+//! to the reference itself.
 use reference::checks::Refusal;
-use reference::edges::{chain_of, chain_of_next, headed};
+use reference::edges::{alternating, chain_of, chain_of_next, headed};
 use reference::limits::Limits;
 use reference::recording::Recording;
-use reference::steps::{check, classify, compare, dialect, form, judge, normal, plain, row, text, Tally};
+use reference::steps::{
+    check, classify, compare, dialect, form, judge, normal, plain, plain_words, rewritten_words, row, text, Form, Tally,
+};
+use reference::word::Word;
 
 /// The table of a text, or its refusal's number and place, with so much room.
 fn read(typed: &str, room: usize) -> Result<Vec<u32>, (u32, usize)> {
@@ -124,11 +128,15 @@ const ALWAYS: [u32; 3] = [0x0000_0002, 0x3000_0001, 0xE000_0001];
 #[test]
 fn always_is_listed_with_its_header() {
     let (mut plain, mut result) = ([7; 131], [7; 4_097]);
-    assert_eq!(form(&ALWAYS, Limits::DESK, &mut plain, &mut result), Ok(10));
+    // N11's listing, and no word of the result is written
+    assert_eq!(form(&ALWAYS, Limits::DESK, &mut plain, &mut result), Ok(Form::Source(4)));
     assert_eq!(plain[..5], [0x001F_0003, 0x1000_0000, 0x3000_0001, 0xA000_4002, 7]);
-    // N8's listing, and what stands past it stays
-    assert_eq!(result[..5], [0x0014_0009, 0x1000_0000, 0x3000_0001, 0xA000_4002, 0xB000_C002]);
-    assert_eq!(result[5..11], [0x2000_0000, 0xA000_4003, 0x8001_4006, 0x5001_0007, 0x6001_0008, 7]);
+    assert_eq!(result, [7; 4_097]);
+    // N8's listing, which it had before
+    let rewritten = rewritten("Gp1");
+    assert_eq!(headed(&rewritten)[0], 0x0014_0009);
+    assert_eq!(rewritten[..4], [0x1000_0000, 0x3000_0001, 0xA000_4002, 0xB000_C002]);
+    assert_eq!(rewritten[4..], [0x2000_0000, 0xA000_4003, 0x8001_4006, 0x5001_0007, 0x6001_0008]);
 }
 
 #[test]
@@ -169,9 +177,9 @@ fn told<T>(answer: Result<T, Refusal>) -> (u32, usize) {
 
 #[test]
 fn headers_come_before_what_a_step_adds() {
-    let wrong = [vec![0x0000_400B], chain_of(8, 9)].concat();
+    let wrong = [vec![0x0000_400B], alternating(8, 9)].concat();
     assert_eq!(told(normal(&wrong, Limits::DESK, &mut [])), (24, 0));
-    assert_eq!(told(normal(&headed(&chain_of(8, 9)), Limits::DESK, &mut [])), (11, 11));
+    assert_eq!(told(normal(&headed(&alternating(8, 9)), Limits::DESK, &mut [])), (11, 11));
     assert_eq!(told(plain(&wrong, Limits::DESK, &mut [])), (24, 0));
     assert_eq!(told(dialect(&wrong, &mut [])), (24, 0));
     assert_eq!(told(classify(&wrong, &mut [])), (24, 0));
@@ -221,7 +229,7 @@ fn limits_outside_their_ranges_come_first() {
         let limits = house(written, until_like);
         let (mut table, mut plain, mut result) = ([0; 2], [0; 2], [0; 2]);
         assert_eq!(text(b"p1", limits, &mut table), Ok(2));
-        assert_eq!(form(&table, limits, &mut plain, &mut result), Ok(2));
+        assert_eq!(form(&table, limits, &mut plain, &mut result), Ok(Form::Source(2)));
     }
 }
 
@@ -236,7 +244,7 @@ fn the_house_limits_words() {
         let typed = |words: usize| format!("{}p1", "X".repeat(words - 1));
         assert_eq!(text(typed(written).as_bytes(), limits, &mut result), Ok(1 + written));
         assert_eq!(told(text(typed(written + 1).as_bytes(), limits, &mut result)), (2, 0));
-        assert_eq!(normal(&nexts(2 * written + 2), limits, &mut result), Ok(2 * written + 3));
+        assert_eq!(normal(&nexts(2 * written + 2), limits, &mut result), Ok(Form::Source(2 * written + 3)));
         assert_eq!(told(normal(&nexts(2 * written + 3), limits, &mut result)), (2, 0));
     }
 }
@@ -245,60 +253,62 @@ fn the_house_limits_words() {
 fn the_place_of_11_is_the_first_word_over_the_limit() {
     for until_like in [0, 1, 8, 9, 10] {
         for kind in 8..12 {
-            let table = headed(&chain_of(kind, 11));
+            let table = headed(&alternating(kind, 11));
             assert_eq!(told(normal(&table, house(64, until_like), &mut [])), (11, until_like + 3));
         }
     }
-    assert_eq!(told(normal(&headed(&chain_of(9, 10)), house(64, 10), &mut vec![7; 4_097])), (0, 0));
-    // of the plain form, where a rule goes the whole way
-    let finally = [0x0000_0002, 0x3000_0001, 0xD000_0001];
-    assert_eq!(told(form(&finally, house(64, 0), &mut [7; 131], &mut [])), (11, 3));
+    assert_eq!(told(normal(&headed(&alternating(9, 10)), house(64, 10), &mut vec![7; 4_097])), (0, 0));
+    // of the plain form, where a rule goes the whole way: true, false, p1, F, G, F
+    let table = read("FGFp1", 65).expect("a rule");
+    let told_under = |until_like| told(form(&table, house(64, until_like), &mut [7; 131], &mut [7; 65]));
+    assert_eq!([0, 1, 2, 3].map(told_under), [(11, 4), (11, 5), (11, 6), (0, 0)]);
 }
 
 // N7: of equally many chosen words the higher choice number comes first, so that the outer word's part does.
 #[test]
 fn outer_words_come_first_among_equals() {
-    // (p1 U p2) W p3: word 3 is the inner U, word 5 the outer W
-    let table = headed(&[0x3000_0001, 0x3000_0002, 0x8000_4002, 0x3000_0003, 0x9000_C004]);
-    let mut result = [0; 64];
-    let length = normal(&table, Limits::DESK, &mut result).unwrap();
-    let words = &result[1..length];
-    // the last conjunct of a part is F G for a chosen W, and G F for a chosen U
+    // the words 3, 5, 7 and 9 are W, U, W and M, each over the one before
+    let words = read("((((p1 W p2) U p3) W p4) M p5)", 65).expect("a rule");
+    let mut result = [0; 256];
+    let made = normal(&words, Limits::DESK, &mut result).unwrap();
+    let words = &result[1..made.length()];
+    // the last conjunct of a part is F G for a chosen W, and G F for a chosen U or M
     let conjuncts = words.iter().filter(|&word| word >> 28 == 5).map(|word| words[(word & 0x3FFF) as usize - 1] >> 28);
-    assert_eq!(conjuncts.take(2).collect::<Vec<_>>(), [8, 10]);
+    assert_eq!(conjuncts.take(4).collect::<Vec<_>>(), [10, 8, 10, 8]);
 }
 
-/// N8: the words of a text's form, and of its plain form and dialect, with all the room there is.
-fn form_of(typed: &str) -> Vec<u32> {
+fn bits(words: Vec<Word>) -> Vec<u32> {
+    words.iter().map(|word| word.bits()).collect()
+}
+
+/// N8: the words of a text's rule rewritten and folded, whatever its class.
+fn rewritten(typed: &str) -> Vec<u32> {
     let table = read(typed, 65).expect("a rule");
-    let (mut plain, mut result) = ([0; 131], [7; 4_097]);
-    let length = form(&table, Limits::DESK, &mut plain, &mut result).expect("a form");
-    assert!(result[length..].iter().all(|&word| word == 7));
-    assert_eq!(result[..length], headed(&result[1..length]));
-    result[1..length].to_vec()
+    let plain = bits(plain_words(&table, Limits::DESK).expect("a plain form"));
+    bits(rewritten_words(&headed(&plain), Limits::DESK).expect("a form"))
 }
 
 #[test]
 fn forms_are_folded() {
     let (p1, p2, yes, no) = (0x3000_0001, 0x3000_0002, 0x2000_0000, 0x1000_0000);
     for typed in ["true", "(p1 | true)", "X(p1 | X true)", "F(p1 -> true)", "G true", "(p1 W (p2 | true))", "(p1 U X true)"] {
-        assert_eq!(form_of(typed), [yes], "{typed}");
+        assert_eq!(rewritten(typed), [yes], "{typed}");
     }
     for typed in ["false", "(p1 & X false)", "(G p1 M false)", "(false M F p1)", "(F p1 R false)", "(F p1 U G false)"] {
-        assert_eq!(form_of(typed), [no], "{typed}");
+        assert_eq!(rewritten(typed), [no], "{typed}");
     }
-    assert_eq!(form_of("((p2 & X false) | (p1 & X true))"), [p1]);
+    assert_eq!(rewritten("((p2 & X false) | (p1 & X true))"), [p1]);
     // p1 or (p1 and GF p1), for a chosen U or M; p1 or (p1 and FG p1), for a chosen W or R
     let again_and_again = [p1, no, yes, 0x8000_C001, 0xA000_8004, 0x5000_4005, 0x6000_4006];
     let from_some_moment_on = [p1, yes, no, 0xA000_C001, 0x8000_8004, 0x5000_4005, 0x6000_4006];
-    assert_eq!([form_of("(false U p1)"), form_of("(true M p1)")], [again_and_again; 2]);
-    assert_eq!([form_of("(true R p1)"), form_of("(false W p1)")], [from_some_moment_on; 2]);
+    assert_eq!([rewritten("(false U p1)"), rewritten("(true M p1)")], [again_and_again; 2]);
+    assert_eq!([rewritten("(true R p1)"), rewritten("(false W p1)")], [from_some_moment_on; 2]);
     // no word stays that only a folded word used: p2 is numbered first, and p1 not at all
-    assert_eq!(form_of("((p1 M false) | (p2 & X p2))"), [p2, 0x7000_0001, 0x5000_4002]);
+    assert_eq!(rewritten("((p1 M false) | (p2 & X p2))"), [p2, 0x7000_0001, 0x5000_4002]);
 }
 
 #[test]
-fn only_forms_are_folded() {
+fn only_rewritten_forms_are_folded() {
     let table = headed(&[0x1000_0000, 0x3000_0001, 0x6000_4002, 0x2000_0000, 0x9000_C004]);
     let mut result = [7; 20];
     assert_eq!(read("((false | p1) W true)", 65), Ok(table.clone()));
@@ -307,7 +317,12 @@ fn only_forms_are_folded() {
     // true R ((false or p1) or true)
     let converted_words = [0x2000_0000, 0x1000_0000, 0x3000_0001, 0x6000_8003, 0x6001_0001, 0xA000_4005];
     assert_eq!(converted(&table[1..], 9), Ok(converted_words.to_vec()));
-    assert_eq!(normal(&table, Limits::DESK, &mut result), Ok(2));
+    // in Delta-2 the rule is its own form, constants and all
+    let before = result;
+    assert_eq!((normal(&table, Limits::DESK, &mut result), result), (Ok(Form::Source(6)), before));
+    // under F, G and F it is not
+    let table = read("(true U (false R (true U ((false | p1) W true))))", 65).expect("a rule");
+    assert_eq!(normal(&table, Limits::DESK, &mut result), Ok(Form::Result(2)));
     assert_eq!(result[..2], [0x001F_C001, 0x2000_0000]);
 }
 
@@ -320,10 +335,11 @@ fn room_for_the_folded_form_is_enough() {
         let told = told(form(&table, Limits::DESK, &mut [0; 131], &mut result));
         (told, result)
     };
-    assert_eq!(told_with("Gp1", 10).0, (0, 0));
-    assert_eq!(told_with("Gp1", 9), ((12, 0), vec![0; 9]));
+    let length = 1 + rewritten("FGFp1").len();
+    assert_eq!(told_with("FGFp1", length).0, (0, 0));
+    assert_eq!(told_with("FGFp1", length - 1), ((12, 0), vec![0; length - 1]));
     // the first part has its words, and the last one is true
-    let last_is_true = "(G(p1 U p2) | (p3 W X true))";
+    let last_is_true = "(F(true W p1) W G(p2 U p3))";
     assert_eq!(told_with(last_is_true, 3), ((0, 0), vec![0x001F_C001, 0x2000_0000, 7]));
     assert_eq!(told_with(last_is_true, 1), ((12, 0), vec![0]));
     assert_eq!(told_with(last_is_true, 0), ((12, 0), vec![]));
@@ -405,4 +421,74 @@ fn recordings_are_checked_one_after_the_other() {
     }
     assert_eq!(compared(sound, (&[0], 0, 1)), Err((27, 0)));
     assert_eq!(compared(sound, (&[0], 1, 1)), Err((15, 0)));
+}
+
+/// N11: what the normal-form step answers, and the result slice afterwards.
+fn normal_with(words: &[u32], limits: Limits, room: usize) -> (Result<Form, (u32, usize)>, Vec<u32>) {
+    let mut result = vec![7; room];
+    let made = normal(&headed(words), limits, &mut result).map_err(|refusal| (refusal.number, refusal.place));
+    (made, result)
+}
+
+#[test]
+fn a_rule_of_delta_2_is_its_own_form() {
+    let kept = |room: usize| vec![7; room];
+    let finally = [0x2000_0000, 0x3000_0001, 0x8000_4002];
+    for room in [0, 3, 4, 40] {
+        assert_eq!(normal_with(&finally, Limits::DESK, room), (Ok(Form::Source(4)), kept(room)));
+    }
+    // limits on until-like words, and 12, count only for a rule that is rewritten
+    for kind in 8..12 {
+        for k in [1, 9, 20] {
+            for limits in [house(64, 0), Limits::DESK] {
+                assert_eq!(normal_with(&chain_of(kind, k), limits, 0), (Ok(Form::Source(k + 3)), vec![]));
+            }
+        }
+    }
+    // the checks of a table count for all
+    assert_eq!(normal_with(&chain_of(8, 9), house(4, 8), 40), (Err((2, 0)), kept(40)));
+    assert_eq!(normal_with(&chain_of(8, 9)[..4], house(64, 11), 40), (Err((25, 0)), kept(40)));
+    assert_eq!(normal_with(&[finally[1], 0xD000_0001], Limits::DESK, 40), (Err((4, 2)), kept(40)));
+    assert_eq!(normal_with(&[finally[1], finally[0]], Limits::DESK, 40), (Err((10, 1)), kept(40)));
+    assert_eq!(told(normal(&[0x001F_C003, finally[0], finally[1], finally[2]], Limits::DESK, &mut [])), (24, 0));
+}
+
+#[test]
+fn a_rule_outside_delta_2_is_rewritten() {
+    // G F p1 and F G p2 are in Delta-2, and what X makes of them is not
+    let both = "((false R (true U p1)) & (true U (false R p2)))";
+    let words = |typed: &str| read(typed, 65).expect("a rule")[1..].to_vec();
+    assert_eq!(normal_with(&words(both), house(64, 3), 0), (Ok(Form::Source(10)), vec![]));
+    let next = words(&format!("X{both}"));
+    let length = 1 + rewritten(&format!("X{both}")).len();
+    let (made, result) = normal_with(&next, Limits::DESK, length + 1);
+    assert_eq!((made, result[length]), (Ok(Form::Result(length)), 7));
+    assert_eq!(normal_with(&next, Limits::DESK, length - 1), (Err((12, 0)), vec![0; length - 1]));
+    // 11 comes before 12, and leaves the slice
+    assert_eq!(normal_with(&next, house(64, 3), 1), (Err((11, 8)), vec![7]));
+    for kind in 8..12 {
+        assert_eq!(normal_with(&alternating(kind, 2), house(64, 0), 0), (Ok(Form::Source(5)), vec![]));
+        assert_eq!(normal_with(&alternating(kind, 3), house(64, 2), 0), (Err((11, 5)), vec![]));
+        assert_eq!(normal_with(&alternating(kind, 3), house(64, 3), 0), (Err((12, 0)), vec![]));
+    }
+}
+
+#[test]
+fn the_whole_way_hands_back_the_plain_table_or_the_result() {
+    let way = |typed: &str, limits: Limits, plain_room: usize, room: usize| {
+        let (mut plain, mut result) = (vec![7; plain_room], vec![7; room]);
+        let made = form(&read(typed, 65).expect("a rule"), limits, &mut plain, &mut result);
+        (made.map_err(|refusal| (refusal.number, refusal.place)), plain, result)
+    };
+    let always = vec![0x001F_0003, 0x1000_0000, 0x3000_0001, 0xA000_4002];
+    assert_eq!(way("Gp1", house(64, 0), 4, 0), (Ok(Form::Source(4)), always.clone(), vec![]));
+    assert_eq!(way("Gp1", house(64, 0), 5, 2), (Ok(Form::Source(4)), [&always[..], &[7]].concat(), vec![7; 2]));
+    // 12 counts for the plain slice as before
+    assert_eq!(way("Gp1", house(64, 0), 3, 2), (Err((12, 0)), vec![0; 3], vec![7; 2]));
+    let (made, plain, result) = way("FGFp1", Limits::DESK, 7, 65);
+    assert_eq!(plain[..4], [0x0000_0006, 0x2000_0000, 0x1000_0000, 0x3000_0001]);
+    let form = headed(&rewritten("FGFp1"));
+    assert_eq!((made, &result[..form.len()]), (Ok(Form::Result(form.len())), &form[..]));
+    assert_eq!(way("FGFp1", Limits::DESK, 7, 1), (Err((12, 0)), plain.clone(), vec![0]));
+    assert_eq!(way("FGFp1", house(64, 2), 7, 1), (Err((11, 6)), plain, vec![7]));
 }

@@ -7,39 +7,11 @@ use reference::forest::{Forest, Node, Tree};
 use reference::limits::Limits;
 use reference::listing::{bits, list, needed};
 use reference::recording::{Recording, Truth};
-use reference::steps::{normal_words, unfolded};
+use reference::steps::{rewritten_words, unfolded};
 use std::collections::BTreeSet;
 
-/// Numbers that look random.
-struct Numbers(u64);
-
-impl Numbers {
-    fn below(&mut self, n: usize) -> usize {
-        self.0 = self.0.wrapping_mul(6_364_136_223_846_793_005).wrapping_add(1_442_695_040_888_963_407);
-        (self.0 >> 33) as usize % n
-    }
-}
-
-const LETTERS: usize = 2;
-
-/// A plain rule so many words deep with at most so many until-like words, and constants at many of its leaves.
-fn rule(numbers: &mut Numbers, forest: &mut Forest, deep: usize, until_like: &mut usize) -> Tree {
-    let letter = 1 + numbers.below(LETTERS);
-    let operator = if deep == 0 { 10 } else { numbers.below(11) };
-    if operator >= 7 {
-        let leaf = [Node::False, Node::True, Node::Letter(letter), Node::Letter(letter), Node::NotLetter(letter)];
-        return forest.grow(leaf[numbers.below(leaf.len())]);
-    }
-    let operator = if operator < 4 && *until_like == 0 { 4 + operator % 3 } else { operator };
-    *until_like -= (operator < 4) as usize;
-    let a = rule(numbers, forest, deep - 1, until_like);
-    if operator == 6 {
-        return forest.grow(Node::Next(a));
-    }
-    let b = rule(numbers, forest, deep - 1, until_like);
-    let node = [Node::Until, Node::Weak, Node::Release, Node::Strong, Node::And, Node::Or][operator];
-    forest.grow(node(a, b))
-}
+mod random;
+use random::{rule, Numbers, LETTERS};
 
 fn letters(forest: &Forest, tree: Tree) -> BTreeSet<usize> {
     let letter = |tree: Tree| match forest.node(tree) {
@@ -78,7 +50,7 @@ fn meaning_class_and_length() {
         let (mut forest, form) = unfolded(&table, Limits::DESK).expect("it passes the checks");
         let folded = fold(&mut forest, form);
         let source = *forest.of_words(&table[1..]).last().expect("a word");
-        assert_eq!(list(&forest, folded), normal_words(&table, Limits::DESK).expect("the same checks"));
+        assert_eq!(list(&forest, folded), rewritten_words(&table, Limits::DESK).expect("the same checks"));
         assert!(list(&forest, folded).len() <= list(&forest, form).len());
         assert!(nothing_to_fold(&forest, folded));
         assert_eq!(fold(&mut forest, folded), folded);

@@ -37,6 +37,7 @@ extern "C" {
         until_like: usize,
         result: *mut u32,
         room: usize,
+        in_source: *mut bool,
         form_length: *mut usize,
         place: *mut usize,
     ) -> u32;
@@ -59,6 +60,7 @@ extern "C" {
         plain_room: usize,
         result: *mut u32,
         room: usize,
+        in_plain: *mut bool,
         form_length: *mut usize,
         place: *mut usize,
     ) -> u32;

@@ -12,10 +12,9 @@
 //! // G p1: "letter 1, for ever".
 //! let table = [showrule::header(0, 2), 0x3000_0001, 0xE000_0001];
 //! let (mut plain, mut result) = ([0; Limits::DESK.plain_room()], [0; 4097]);
+//! // class 7C, three words: it is in Delta-2, so that its plain table is its form
 //! let form = showrule::form(&table, Limits::DESK, &mut plain, &mut result)?;
-//! assert_eq!(form.len(), 10);
-//! // class 50, nine words
-//! assert_eq!((form[0], form[9]), (0x0014_0009, 0x6001_0008));
+//! assert_eq!(form, [0x001F_0003, 0x1000_0000, 0x3000_0001, 0xA000_4002]);
 //! # Ok::<(), showrule::Refusal>(())
 //! ```
 //!
@@ -185,38 +184,51 @@ pub fn plain_form<'a>(table: &[u32], limits: Limits, result: &'a mut [u32]) -> R
     Ok(&result[..length])
 }
 
-/// The normal form of a plain table, of at most [`Limits::plain_words`] words: the front part of `result`. It is folded from its leaves
+/// The normal form of a plain table, of at most [`Limits::plain_words`] words: a part of `source` or of `result`.
+///
+/// A table in Delta-2, whose header has bit 6 in its class byte, is its own form: the part is the table, and `result` is as it was, however
+/// short. The limit on until-like words does not count for it.
+///
+/// Any other table is rewritten, and the part is the front of `result`; what stands past the form stays. It is folded from its leaves
 /// upward: `false | a` is `a`, `a W true` is `true`, `X false` is `false` and so on, so that the whole form may be one word, and 12 measures
-/// the folded form. No other step folds. What stands past the form stays. Refused as 12, every word of the slice is 0; refused otherwise,
-/// it is as it was.
+/// the folded form. Nothing else is folded.
+///
+/// Refused as 12, every word of `result` is 0; refused otherwise, it is as it was. The words of `source` stay in every case.
 ///
 /// ```
 /// use showrule::Limits;
-/// let finally = [0x001E_8003, 0x2000_0000, 0x3000_0001, 0x8000_4002];
 /// let mut result = [0; 4097];
-/// assert_eq!(showrule::normal_form(&finally, Limits::DESK, &mut result)?.len(), 9);
+/// // F p1 is in Delta-2
+/// let mut finally = [0x001E_8003, 0x2000_0000, 0x3000_0001, 0x8000_4002];
+/// assert_eq!(showrule::normal_form(&mut finally, Limits::DESK, &mut [])?, [0x001E_8003, 0x2000_0000, 0x3000_0001, 0x8000_4002]);
 ///
-/// // p1 W true, of three words, has the form true, of one
-/// let weak = [0x001F_0003, 0x3000_0001, 0x2000_0000, 0x9000_4002];
-/// assert_eq!(showrule::normal_form(&weak, Limits::DESK, &mut result[..2])?, [0x001F_C001, 0x2000_0000]);
+/// // G F G p1 is not: its form has ten words
+/// let mut always = [0x0000_0006, 0x1000_0000, 0x2000_0000, 0x3000_0001, 0xA000_4003, 0x8000_8004, 0xA000_4005];
+/// let form = showrule::normal_form(&mut always, Limits::DESK, &mut result)?;
+/// assert_eq!((form.len(), form[0], form[10]), (11, 0x0014_000A, 0x6002_4009));
+///
+/// // F G F true, of five words, has the form true, of one
+/// let mut folded = [0x0000_0005, 0x2000_0000, 0x1000_0000, 0x8000_4001, 0xA000_8003, 0x8000_4004];
+/// assert_eq!(showrule::normal_form(&mut folded, Limits::DESK, &mut result[..2])?, [0x001F_C001, 0x2000_0000]);
 /// # Ok::<(), showrule::Refusal>(())
 /// ```
-pub fn normal_form<'a>(table: &[u32], limits: Limits, result: &'a mut [u32]) -> Result<&'a [u32], Refusal> {
-    let (mut length, mut place) = (0, 0);
+pub fn normal_form<'a>(source: &'a mut [u32], limits: Limits, result: &'a mut [u32]) -> Result<&'a mut [u32], Refusal> {
+    let (mut in_source, mut length, mut place) = (false, 0, 0);
     let number = unsafe {
         ffi::showrule_normal(
-            table.as_ptr(),
-            table.len(),
+            source.as_ptr(),
+            source.len(),
             limits.written,
             limits.until_like,
             result.as_mut_ptr(),
             result.len(),
+            &mut in_source,
             &mut length,
             &mut place,
         )
     };
-    Call { table, limits, limit: limits.plain_words(), room: result.len(), ..Call::default() }.answer(number, place)?;
-    Ok(&result[..length])
+    Call { table: source, limits, limit: limits.plain_words(), room: result.len(), ..Call::default() }.answer(number, place)?;
+    Ok(if in_source { &mut source[..length] } else { &mut result[..length] })
 }
 
 /// The table of a plain table's conversion to the dialect without W and M, the front part of `result`: a W b becomes b R (a or b), and
@@ -239,29 +251,32 @@ pub fn dialect<'a>(table: &[u32], result: &'a mut [u32]) -> Result<&'a [u32], Re
     Ok(&result[..length])
 }
 
-/// The whole way: the plain form of a written table at the front of `plain`, and the normal form of exactly that table, the front part
-/// of `result`. What stands past them stays. Where a form does not fit its slice (12), every word of that slice is 0; where the
-/// plain form is refused, `result` is as it was; after 11 and 12 for `result`, the plain form stands in `plain`.
+/// The whole way: the plain form of a written table at the front of `plain`, and the normal form of exactly that table, a part of `plain` or
+/// of `result`, as [`normal_form`] has it: where the plain form is in Delta-2, it is the form, and `result` is as it was; else the form is
+/// the front part of `result`. What stands past the forms stays. Where a form does not fit its slice (12), every word of that slice is 0;
+/// where the plain form is refused, `result` is as it was; after 11 and 12 for `result`, the plain form stands in `plain`.
 ///
 /// ```
-/// // Nine until-like words: F p1 and F p2 and .. and F p9.
-/// let mut table = vec![showrule::header(0, 26)];
-/// table.extend((1..=9).map(|n| 0x3000_0000 + n));
-/// table.extend((1..=9).map(|n| 0xD000_0000 + n));
-/// table.push(0x5000_0000 + (10 << 14) + 11);
-/// table.extend((12..=18).map(|n| 0x5000_0000 + ((n + 7) << 14) + n));
-/// let limits = showrule::Limits { written: 64, until_like: 8 };
+/// use showrule::{form, Limits, Rule};
 /// let (mut plain, mut result) = ([0; 131], [0; 4097]);
-/// let refusal = showrule::form(&table, limits, &mut plain, &mut result).unwrap_err();
-/// assert_eq!(refusal.number(), 11);
-/// assert!(refusal.to_string().contains("of the plain form is the first until-like word over the limit of 8"));
+/// let limits = Limits { until_like: 2, ..Limits::DESK };
+/// // three until-like words, outside Delta-2
+/// let rule: Rule = "FGFp1".parse()?;
+/// let refusal = form(&rule, limits, &mut plain, &mut result).unwrap_err();
+/// assert_eq!((refusal.number(), refusal.place()), (11, 6));
+/// assert_eq!(refusal.to_string(), "word 6 of the plain form is the first until-like word over the limit of 2: split the rule");
 ///
-/// // a house that allows nine
-/// let limits = showrule::Limits { until_like: 9, ..limits };
-/// assert!(showrule::form(&table, limits, &mut plain, &mut result).is_ok());
+/// // a house that allows three
+/// let limits = Limits { until_like: 3, ..limits };
+/// assert_eq!(form(&rule, limits, &mut plain, &mut result)?.len(), 10);
+///
+/// // in Delta-2 any number is taken, and no result is needed
+/// let rule: Rule = "(((Fp1 & Fp2) & (Fp3 & Fp4)) & GFp5)".parse()?;
+/// assert_eq!(form(&rule, limits, &mut plain, &mut [])?.len(), 18);
+/// # Ok::<(), Box<dyn std::error::Error>>(())
 /// ```
-pub fn form<'a>(table: &[u32], limits: Limits, plain: &mut [u32], result: &'a mut [u32]) -> Result<&'a [u32], Refusal> {
-    let (mut length, mut place) = (0, 0);
+pub fn form<'a>(table: &[u32], limits: Limits, plain: &'a mut [u32], result: &'a mut [u32]) -> Result<&'a mut [u32], Refusal> {
+    let (mut in_plain, mut length, mut place) = (false, 0, 0);
     let number = unsafe {
         ffi::showrule_form(
             table.as_ptr(),
@@ -272,6 +287,7 @@ pub fn form<'a>(table: &[u32], limits: Limits, plain: &mut [u32], result: &'a mu
             plain.len(),
             result.as_mut_ptr(),
             result.len(),
+            &mut in_plain,
             &mut length,
             &mut place,
         )
@@ -280,7 +296,7 @@ pub fn form<'a>(table: &[u32], limits: Limits, plain: &mut [u32], result: &'a mu
     let plain_made = plain.first().is_some_and(|&word| word != 0);
     let room = if plain_made { result.len() } else { plain.len() };
     Call { table, limits, limit: limits.written, room, of_plain_form: true, ..Call::default() }.answer(number, place)?;
-    Ok(&result[..length])
+    Ok(if in_plain { &mut plain[..length] } else { &mut result[..length] })
 }
 
 /// How many 64-bit words of scratch a table of so many words needs for a recording of so many samples. The header needs none.

@@ -19,7 +19,7 @@
 pub struct Limits {
     /// The most words of a written table, 1 to 256: for the plain-form step, and for the table of a text.
     pub written: usize,
-    /// The most until-like words (kinds 8 to 11) of a plain table, 0 to 10: for the normal-form step.
+    /// The most until-like words (kinds 8 to 11) of a plain table outside Delta-2, 0 to 10: for the normal-form step.
     pub until_like: usize,
 }
 

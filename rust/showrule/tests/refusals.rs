@@ -56,20 +56,50 @@ fn headers() {
     is(row(&[1, 0x3000_0001], one(&[], 0), &mut []), 24, 0, class);
 }
 
+/// F G F p1 in plain form, with three until-like words: outside Delta-2.
+const AGAIN: [u32; 7] = [0x0000_0006, 0x2000_0000, 0x1000_0000, 0x3000_0001, 0x8000_4003, 0xA000_8004, 0x8000_4005];
+
 #[test]
 fn forms() {
+    let mut always = ALWAYS;
     is(
-        normal_form(&ALWAYS, Limits::DESK, &mut [0; 9]),
+        normal_form(&mut always, Limits::DESK, &mut [0; 9]),
         4,
         2,
         "word 2 is of kind 14, which a plain table does not have: make the plain form first",
     );
     is(classify(&[0x001F_C001, 0x3000_0001], &mut []), 12, 0, "the result does not fit the slice of 0 that was lent for it");
     is(plain_form(&ALWAYS, Limits::DESK, &mut [7; 3]), 12, 0, "the result does not fit the slice of 3 that was lent for it");
-    let form = |plain: &mut [u32], result: &mut [u32]| form(&ALWAYS, Limits::DESK, plain, result).map(|form| form.len());
-    is(form(&mut [7; 3], &mut [7; 20]), 12, 0, "the result does not fit the slice of 3 that was lent for it");
-    is(form(&mut [7; 4], &mut [7; 9]), 12, 0, "the result does not fit the slice of 9 that was lent for it");
-    assert_eq!(form(&mut [7; 4], &mut [7; 10]), Ok(10));
+    let (mut again, short) = (AGAIN, "the result does not fit the slice of 9 that was lent for it");
+    is(normal_form(&mut again, Limits::DESK, &mut [7; 9]), 12, 0, short);
+    let form = |plain: &mut [u32], result: &mut [u32]| form(&AGAIN, Limits::DESK, plain, result).map(|form| form.len());
+    is(form(&mut [7; 6], &mut [7; 20]), 12, 0, "the result does not fit the slice of 6 that was lent for it");
+    is(form(&mut [7; 7], &mut [7; 9]), 12, 0, "the result does not fit the slice of 9 that was lent for it");
+    assert_eq!(form(&mut [7; 7], &mut [7; 10]), Ok(10));
+}
+
+/// A rule of Delta-2 comes back as the table that was lent, and as its plain table, whatever the result and the limit on until-like words.
+#[test]
+fn forms_that_are_the_source() {
+    let limits = Limits { until_like: 0, ..Limits::DESK };
+    let finally = [0x001E_8003, 0x2000_0000, 0x3000_0001, 0x8000_4002];
+    let (mut source, mut result) = (finally, [7; 3]);
+    let place = source.as_ptr();
+    let form = normal_form(&mut source, limits, &mut result).unwrap();
+    assert_eq!((form.as_ptr(), &form[..]), (place, &finally[..]));
+    // the part can be written to
+    form[2] = 0x3000_0002;
+    assert_eq!((source[2], result), (0x3000_0002, [7; 3]));
+    let mut plain = [7; 5];
+    let place = plain.as_ptr();
+    let form = showrule::form(&ALWAYS, limits, &mut plain, &mut result).unwrap();
+    assert_eq!((form.as_ptr(), &form[..]), (place, &[0x001F_0003, 0x1000_0000, 0x3000_0001, 0xA000_4002][..]));
+    assert_eq!((plain[4], result), (7, [7; 3]));
+    assert_eq!(showrule::form(&ALWAYS, limits, &mut plain, &mut []).unwrap().len(), 4);
+    // 12 of the plain form stays
+    let short = showrule::form(&ALWAYS, limits, &mut plain[..3], &mut result);
+    is(short, 12, 0, "the result does not fit the slice of 3 that was lent for it");
+    assert_eq!((plain[..4].to_vec(), result), (vec![0, 0, 0, 0xA000_4002], [7; 3]));
 }
 
 /// What has to fit is the folded form, and no word of the slice past it is written.
@@ -79,22 +109,27 @@ fn folded_forms() {
     let mut result = [7; 3];
     assert_eq!(form(&late, Limits::DESK, &mut [0; 131], &mut result).unwrap(), [0x001F_C001, 0x2000_0000]);
     assert_eq!(result, [0x001F_C001, 0x2000_0000, 7]);
-    let short = form(&late, Limits::DESK, &mut [0; 131], &mut result[..1]);
-    is(short, 12, 0, "the result does not fit the slice of 1 that was lent for it");
+    let short = "the result does not fit the slice of 1 that was lent for it";
+    is(form(&late, Limits::DESK, &mut [0; 131], &mut result[..1]), 12, 0, short);
     assert_eq!(result, [0, 0x2000_0000, 7]);
-    let never = "G(F p1 & X false)".parse::<Rule>().unwrap();
+    let never = "FG(F p1 & X false)".parse::<Rule>().unwrap();
     assert_eq!(form(&never, Limits::DESK, &mut [0; 131], &mut result).unwrap(), [0x001F_C001, 0x1000_0000]);
+    // in Delta-2 no constant is folded: the plain table is the form
+    let never = "G(F p1 & X false)".parse::<Rule>().unwrap();
+    assert_eq!(form(&never, Limits::DESK, &mut [0; 131], &mut result).unwrap().len(), 8);
+    assert_eq!(result, [0x001F_C001, 0x1000_0000, 7]);
 }
 
 #[test]
 fn limits() {
     let house = |written, until_like| Limits { written, until_like };
-    let mut eleven = vec![0x001E_800D, 0x3000_0001, 0x3000_0002];
-    eleven.extend((1..=11).map(|n| 0x8000_0000 + ((if n == 1 { 1 } else { n + 1 }) << 14) + 2));
+    // U and R by turns
+    let mut eleven = vec![0x0000_000D, 0x3000_0001, 0x3000_0002];
+    eleven.extend((1..=11).map(|n| (8 + 2 * (n % 2) << 28) + ((if n == 1 { 1 } else { n + 1 }) << 14) + 2));
     for (until_like, place) in [(0, 3), (8, 11), (10, 13)] {
         let first = format!("is the first until-like word over the limit of {until_like}: split the rule");
         let limits = house(64, until_like);
-        is(normal_form(&eleven, limits, &mut [0; 9]), 11, place, &format!("word {place} {first}"));
+        is(normal_form(&mut eleven, limits, &mut [0; 9]), 11, place, &format!("word {place} {first}"));
         let of_plain_form = format!("word {place} of the plain form {first}");
         is(form(&eleven, limits, &mut [0; 131], &mut [0; 9]), 11, place, &of_plain_form);
     }
@@ -102,7 +137,7 @@ fn limits() {
         |words, limit| format!("the table has {words} words, and this step takes at most {limit}: make the rule shorter");
     is(plain_form(&eleven, house(12, 0), &mut []), 2, 0, &too_many(13, 12));
     is(form(&eleven, house(12, 0), &mut [], &mut []), 2, 0, &too_many(13, 12));
-    is(normal_form(&eleven, house(5, 0), &mut []), 2, 0, &too_many(13, 12));
+    is(normal_form(&mut eleven, house(5, 0), &mut []), 2, 0, &too_many(13, 12));
     is(
         from_text(b"Xp1", house(1, 0), &mut []),
         2,
@@ -119,7 +154,7 @@ fn limits() {
     ];
     for (limits, sentence) in outside {
         is(plain_form(&[], limits, &mut []), 25, 0, sentence);
-        is(normal_form(&[], limits, &mut []), 25, 0, sentence);
+        is(normal_form(&mut [], limits, &mut []), 25, 0, sentence);
         is(form(&[], limits, &mut [], &mut []), 25, 0, sentence);
         is(from_text(&[b' '; 1_025], limits, &mut []), 25, 0, sentence);
     }

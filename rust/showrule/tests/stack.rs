@@ -11,13 +11,16 @@ fn on_stack(size: usize, work: impl FnOnce() + Send + 'static) {
     std::thread::Builder::new().stack_size(size << 10).spawn(work).expect("a thread").join().expect("it ends well");
 }
 
-/// Letter 1, then a word of each kind over the one before, on both sides where it has two operands. Beside X there is only one kind.
+/// Letter 1, then a word of each kind over the one before, on both sides where it has two operands. Beside X there is only one kind, or the
+/// rule is written or outside Delta-2.
 fn chain(kinds: &[u32]) -> Vec<u32> {
-    let class = match kinds.iter().find(|&&kind| kind != 7) {
-        None => 0x7E,
-        Some(5 | 6) => 0x7F,
-        Some(8 | 11) => 0x7A,
-        Some(9 | 10) => 0x7C,
+    let mut others: Vec<u32> = kinds.iter().copied().filter(|&kind| kind != 7).collect();
+    others.dedup();
+    let class = match others[..] {
+        [] => 0x7E,
+        [5 | 6] => 0x7F,
+        [8 | 11] => 0x7A,
+        [9 | 10] => 0x7C,
         _ => 0,
     };
     let word = |(n, &kind): (u32, &u32)| {
@@ -59,11 +62,14 @@ fn longest_conversions() {
 #[test]
 fn deepest_rules() {
     for kind in [5, 7, 12, 15] {
-        let table = chain(&[kind; 255]);
-        let (mut plain, mut result) = (vec![0; Limits::HIGHEST.plain_room()], vec![0; MOST_ROOM]);
-        on_small_stack(move || {
-            form(&table, Limits::HIGHEST, &mut plain, &mut result).unwrap();
-        });
+        // as it is, and under F, G and F, so that it is rewritten
+        for kinds in [vec![kind; 255], [vec![kind; 252], vec![13, 14, 13]].concat()] {
+            let table = chain(&kinds);
+            let (mut plain, mut result) = (vec![0; Limits::HIGHEST.plain_room()], vec![0; MOST_ROOM]);
+            on_small_stack(move || {
+                form(&table, Limits::HIGHEST, &mut plain, &mut result).unwrap();
+            });
+        }
     }
 }
 
@@ -84,12 +90,23 @@ fn deepest_texts() {
 #[test]
 fn ten_until_like_words_under_and_over_a_deep_rule() {
     for kind in [8, 9, 10, 11] {
-        for kinds in [[[kind; 10].to_vec(), vec![7; 503]], [vec![7; 503], [kind; 10].to_vec()]] {
-            let (table, mut result) = (chain(&kinds.concat()), vec![0; MOST_ROOM]);
-            on_small_stack(move || match normal_form(&table, Limits::HIGHEST, &mut result) {
+        // of this kind and of one of the other side by turns, outside Delta-2
+        let ten = [kind, kind ^ 2].repeat(5);
+        for kinds in [[ten.clone(), vec![7; 503]], [vec![7; 503], ten]] {
+            let (mut table, mut result) = (chain(&kinds.concat()), vec![0; MOST_ROOM]);
+            on_small_stack(move || match normal_form(&mut table, Limits::HIGHEST, &mut result) {
                 Ok(form) => assert!(form.len() > 514),
                 Err(refusal) => assert_eq!(refusal.number(), 12),
             });
         }
     }
+}
+
+#[test]
+fn longest_table_that_is_its_own_form() {
+    let mut table = chain(&[8; 513]);
+    on_small_stack(move || {
+        let own = table.clone();
+        assert_eq!(normal_form(&mut table, Limits::HIGHEST, &mut []).unwrap(), own);
+    });
 }

@@ -5,7 +5,7 @@ use Rattle.form_calls.proofs.plain.Tie as tie
 returns : tie.Need-returns
 returns c =
     let e = c .before .before .before .before .before .plain-form .ensures in
-    (rw (e .0) at (c .form-reply .ensures), e .1)
+    (rw (e .0) at (c .table-reply .ensures), e .1)
 
 pub plain-spec : {M : Type 1} → statement M
 plain-spec =

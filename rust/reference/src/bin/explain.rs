@@ -1,5 +1,5 @@
 //! Prints a written rule's tables with each word's rule beside it: as written, in plain form and in normal form, with class bytes. The
-//! header comes first, without a number.
+//! header comes first, without a number. Where the plain form is in Delta-2, it is the normal form.
 //!
 //!     explain TEXT        as: explain 'G(p1 -> F p2)'
 use reference::class::Classes;
@@ -20,8 +20,10 @@ fn main() {
     let plain: Vec<u32> = plain_words(&written, Limits::DESK).expect("it passes the checks").iter().map(|w| w.bits()).collect();
     let plain = headed(&plain);
     print("plain form", &plain, true);
-    let form: Vec<u32> = normal_words(&plain, Limits::DESK).expect("it passes the checks").iter().map(|w| w.bits()).collect();
-    print("normal form", &headed(&form), true);
+    match normal_words(&plain, Limits::DESK).expect("it passes the checks") {
+        None => println!("normal form: the plain form, which is in Delta-2"),
+        Some(form) => print("normal form", &headed(&form.iter().map(|w| w.bits()).collect::<Vec<u32>>()), true),
+    }
 }
 
 fn print(title: &str, table: &[u32], with_class: bool) {

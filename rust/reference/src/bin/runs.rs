@@ -2,7 +2,9 @@
 //! what it must print, and NAME.err what it must say on standard error where that is something.
 //!
 //!     runs FOLDER
-use reference::edges::{chain_of, chain_of_ands, chain_of_next, constant_forms, headed, long_forms, long_unfolded, nested};
+use reference::edges::{
+    alternating, chain_of, chain_of_ands, chain_of_next, constant_forms, headed, long_forms, long_unfolded, nested, outside_words,
+};
 use reference::program::{Printed, Run};
 use reference::rules::rules;
 use reference::texts::texts;
@@ -53,7 +55,9 @@ fn runs() -> Vec<(String, Run)> {
     for (name, text) in typed() {
         add(format!("text {name}"), true, false, text);
     }
+    // by turns in Delta-2, and in a rule outside it
     for (n, (_, words)) in (1..).zip(nested(2)) {
+        let words = if n % 2 == 0 { words } else { outside_words(&words) };
         add(format!("nested {n}, as text"), false, true, bytes(&headed(&words)));
     }
     // forms whose text is as long as any that is printed or counted, a byte shorter and a byte longer
@@ -140,6 +144,7 @@ fn headers() -> Vec<(String, Vec<u32>)> {
     // 10 is before 24, and 24 before 11
     add("unused word under a wrong class".into(), vec![0x0000_4002, 0x3000_0001, 0x3000_0002]);
     add("9 words of kind 8 under a wrong class".into(), [vec![0x0000_400B], chain_of(8, 9)].concat());
+    add("9 alternating words under a wrong class".into(), [vec![0x0010_000B], alternating(8, 9)].concat());
     // counts beside lengths, around as many words as the program reads
     for count in [0, 1, 63, 64, 65, 66, 16_383] {
         for words in [0, 1, 63, 64, 65, 66, 67, 5000] {
@@ -170,13 +175,18 @@ fn tables() -> Vec<(String, Vec<u32>)> {
     add("always", &[0x3000_0001, 0xE000_0001]);
     add("finally", &[0x2000_0000, 0x3000_0001, 0x8000_4002]);
     add("not finally", &[0x3000_0001, 0xD000_0001, 0xC000_0002]);
+    add("finally always finally", &[0x3000_0001, 0xD000_0001, 0xE000_0002, 0xD000_0003]);
     for words in [64, 65, 66, 5000] {
         add(&format!("{words} words"), &chain_of_next(words));
     }
     add("60 ands", &chain_of_ands(60));
     for kind in 8..12 {
-        for k in [7, 8, 9] {
+        // as many as the program allows and one more, which counts outside Delta-2 only
+        for k in [8, 9] {
             add(&format!("{k} words of kind {kind}"), &chain_of(kind, k));
+        }
+        for k in [2, 3, 8, 9] {
+            add(&format!("{k} alternating words from kind {kind}"), &alternating(kind, k));
         }
     }
     for (form_words, words) in long_forms().into_iter().filter(|(_, words)| words.len() <= 64) {

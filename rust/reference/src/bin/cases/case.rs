@@ -3,7 +3,7 @@ use reference::checks::Refusal;
 use reference::edges::{chain_of_next, headed};
 use reference::limits::Limits;
 use reference::recording::Recording;
-use reference::steps::{self, Judgement, Tally};
+use reference::steps::{self, Form, Judgement, Tally};
 
 /// The runner's memory for the table of a text or a plain form, and for any form.
 pub const PLAIN_ROOM: usize = 520;
@@ -179,7 +179,7 @@ impl Case {
             Step::Normal => {
                 let mut result = vec![0xEEEE_EEEE; FORM_ROOM];
                 let made = steps::normal(&table, self.limits, &mut result[..self.room]);
-                format!("{}, {}{}", answer(&made), made.unwrap_or(0), words(&result))
+                format!("{}, {}{}", answer(&made), stands(&made), words(&result))
             }
             Step::Dialect => {
                 let mut result = vec![0xEEEE_EEEE; FORM_ROOM];
@@ -189,7 +189,7 @@ impl Case {
             Step::Form => {
                 let (mut plain, mut result) = (vec![0xEEEE_EEEE; PLAIN_ROOM], vec![0xEEEE_EEEE; FORM_ROOM]);
                 let made = steps::form(&table, self.limits, &mut plain[..self.room], &mut result[..self.second]);
-                format!("{}, {}{}{}", answer(&made), made.unwrap_or(0), words(&plain), words(&result))
+                format!("{}, {}{}{}", answer(&made), stands(&made), words(&plain), words(&result))
             }
             Step::Judge => {
                 let mut scratch = vec![u64::MAX; 2_100];
@@ -227,6 +227,12 @@ impl Case {
 fn answer<T>(answer: &Result<T, Refusal>) -> String {
     let refusal = answer.as_ref().err().copied().unwrap_or(Refusal { number: 0, place: 0 });
     format!("{} at {}", refusal.number, refusal.place)
+}
+
+/// The length of a form, 0 where it is refused, and whether it is the source table or stands in the result.
+fn stands(form: &Result<Form, Refusal>) -> String {
+    let form = form.unwrap_or(Form::Result(0));
+    format!("{}, {}", form.length(), if form.is_source() { "source" } else { "result" })
 }
 
 /// A sum in which the place of every element counts.

@@ -1,9 +1,12 @@
-//! Plain and normal forms: every operator alone, denied and nested in every other; shared words; the limits on words and until-like
-//! words; result slices of exactly the length, one less, none, and longer than any counts for; forms as long as slices count for.
+//! Plain and normal forms: every operator alone, denied and nested in every other, in Delta-2 and in rules outside it; shared words; the
+//! limits on words and until-like words; result slices of exactly the length, one less, none, and longer than any counts for; forms as
+//! long as slices count for.
 use crate::case::{Case, Step, FORM_ROOM, PLAIN_ROOM};
-use reference::edges::{chain_of, chain_of_ands, chain_of_next, headed, long_forms, nested};
+use reference::edges::{
+    alternating, bits_of, chain_of, chain_of_ands, chain_of_next, headed, limits_for, long_forms, nested, outside_words,
+};
 use reference::limits::Limits;
-use reference::steps::{normal_words, plain_words};
+use reference::steps::{is_delta_2, normal_words, plain_words};
 use reference::word::Word;
 
 pub fn cases() -> Vec<Case> {
@@ -11,17 +14,54 @@ pub fn cases() -> Vec<Case> {
     for (label, words) in tables() {
         cases.extend(every_form(&label, &words, Limits::DESK));
     }
+    for (label, words) in outside() {
+        cases.extend(rewritten(&label, &words));
+    }
+    for (n, words) in long_forms() {
+        cases.extend(every_form(&format!("form of {n} words"), &words, limits_for(&words)));
+    }
+    let nested_in =
+        |label: &str, words: &[u32]| Case { second: 16_384, ..Case::new(&format!("{label}, whole way"), Step::Form, words, 131) };
     for (label, words) in nested(2) {
-        let form = Case { second: 16_384, ..Case::new(&format!("{label}, whole way"), Step::Form, &words, 131) };
-        cases.push(form);
+        cases.push(nested_in(&label, &words));
+        cases.push(nested_in(&format!("{label}, outside Delta-2"), &outside_words(&words)));
+    }
+    for (label, words) in nested(3).into_iter().filter(|(_, words)| !is_delta_2(&plain_bits(words, Limits::DESK))) {
+        cases.push(nested_in(&label, &words));
     }
     cases
 }
 
 /// The plain form, the normal form and the whole way of a table with these words.
 pub fn every_form(label: &str, words: &[u32], limits: Limits) -> Vec<Case> {
-    let cases = [plain(label, words, limits), normal(label, words, limits), whole(label, words, limits)].concat();
+    let plain = plain(label, words, limits).into_iter().map(|case| case.within(limits));
+    plain.chain(normal_forms(label, words, limits)).collect()
+}
+
+/// The normal form and the whole way.
+pub fn normal_forms(label: &str, words: &[u32], limits: Limits) -> Vec<Case> {
+    let cases = [normal(label, words, limits), whole(label, words, limits)].concat();
     cases.into_iter().map(|case| case.within(limits)).collect()
+}
+
+/// The whole way of a table with these words, and the normal form of its plain form.
+pub fn rewritten(label: &str, words: &[u32]) -> Vec<Case> {
+    let limits = limits_for(words);
+    let cases = [whole(label, words, limits), normal(label, &plain_bits(words, limits), limits)].concat();
+    cases.into_iter().map(|case| case.within(limits)).collect()
+}
+
+/// The words of the plain form; none where there is none.
+pub fn plain_bits(words: &[u32], limits: Limits) -> Vec<u32> {
+    plain_words(&headed(words), limits).unwrap_or_default().iter().map(|w| w.bits()).collect()
+}
+
+/// The length that a plain table's form has in the result, as far as slices are lent: 0 where nothing is written.
+pub fn in_result(plain: &[u32], limits: Limits) -> usize {
+    match normal_words(&headed(plain), limits) {
+        Ok(Some(form)) => (1 + form.len()).min(FORM_ROOM),
+        _ => 0,
+    }
 }
 
 /// A room that is enough, the exact one, one less, and none. The length counts the header, and is 0 where nothing is made.
@@ -38,21 +78,23 @@ fn plain(label: &str, words: &[u32], limits: Limits) -> Vec<Case> {
 }
 
 fn normal(label: &str, words: &[u32], limits: Limits) -> Vec<Case> {
-    let length = normal_words(&headed(words), limits).map_or(0, |form| (1 + form.len()).min(FORM_ROOM));
     let case = |room| Case::new(&format!("{label}, normal form, room {room}"), Step::Normal, words, room);
-    rooms(length, FORM_ROOM).into_iter().map(case).collect()
+    rooms(in_result(words, limits), FORM_ROOM).into_iter().map(case).collect()
 }
 
-/// The whole way, with either slice too short by one, both right, and none.
+/// The whole way, with as much as the limits need, both slices right, either too short by one, and none.
 fn whole(label: &str, words: &[u32], limits: Limits) -> Vec<Case> {
-    let plain: Vec<u32> = plain_words(&headed(words), limits).unwrap_or_default().iter().map(|w| w.bits()).collect();
-    let m = normal_words(&headed(&plain), limits).map_or(0, |form| (1 + form.len()).min(FORM_ROOM));
+    let plain = plain_bits(words, limits);
+    let m = in_result(&plain, limits);
     let n = if plain.is_empty() { 0 } else { 1 + plain.len() };
-    let case = |(room, second): (usize, usize)| Case {
+    let case = |&(room, second): &(usize, usize)| Case {
         second,
         ..Case::new(&format!("{label}, whole way, rooms {room} and {second}"), Step::Form, words, room)
     };
-    [(131, 4_097), (n, m), (n.saturating_sub(1), m), (n, m.saturating_sub(1)), (0, 0)].into_iter().map(case).collect()
+    let enough = (1 + limits.plain(), if m > 4_097 { FORM_ROOM } else { 4_097 });
+    let mut rooms = vec![enough, (n, m), (n, m.saturating_sub(1)), (n.saturating_sub(1), m), (0, 0)];
+    rooms.dedup();
+    rooms.iter().map(case).collect()
 }
 
 fn tables() -> Vec<(String, Vec<u32>)> {
@@ -72,8 +114,22 @@ fn tables() -> Vec<(String, Vec<u32>)> {
     tables.push(("not and implies".into(), not_and_implies(64)));
     for kind in 8..12 {
         tables.extend([3, 8, 9].map(|k| (format!("{k} words of kind {kind}"), chain_of(kind, k))));
+        tables.extend([3, 8, 9].map(|k| (format!("{k} alternating words from kind {kind}"), alternating(kind, k))));
     }
-    tables.extend(long_forms().into_iter().map(|(n, words)| (format!("form of {n} words"), words)));
+    tables
+}
+
+/// Rules outside Delta-2: by three until-like words and by X; the tables above in such rules.
+fn outside() -> Vec<(String, Vec<u32>)> {
+    let texts =
+        ["FGF p1", "G(p1 -> F G p2)", "!FG(p1 -> F p2)", "X(GF p1 & FG p2)", "(GF p1 & FG p2) -> X(p3 W (FG p1 | GF p2))"];
+    let mut tables: Vec<(String, Vec<u32>)> = texts.map(|text| (text.to_string(), bits_of(text))).into();
+    let mut add = |label: String, words: Vec<u32>| tables.push((format!("{label}, outside Delta-2"), outside_words(&words)));
+    for kind in 1..16 {
+        (0..3).for_each(|nots| add(format!("kind {kind} under {nots} nots"), denied(kind, nots)));
+    }
+    add("60 ands".into(), chain_of_ands(60));
+    add("not and implies".into(), not_and_implies(64));
     tables
 }
 

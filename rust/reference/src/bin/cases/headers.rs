@@ -1,7 +1,7 @@
 //! Headers that are missing, damaged, or not those of the words after them, in every step that takes a table; and where 23 and 24 stand
 //! among the other checks.
 use crate::case::{Case, Header, Samples, Step};
-use reference::edges::{chain_of, chain_of_next};
+use reference::edges::{alternating, chain_of, chain_of_next};
 use reference::steps::Tally;
 
 /// A name; before the words, a header or nothing; the words.
@@ -68,8 +68,13 @@ fn tables() -> Vec<Table> {
         ("a word of kind 0, kind 1", Some(0x10000001), vec![0]),
         ("operand 0 at 2, class 7F", Some(0x001FC002), vec![p1, 0x70000000]),
         ("unused, class 01", Some(0x00004002), vec![p1, p2]),
-        ("nine until-like words, class 01", Some(0x0000400B), chain_of(8, 9)),
-        ("nine until-like words", Some(0x001E800B), chain_of(8, 9)),
+        // 24 before 11, and before the form of a rule in Delta-2
+        ("nine until-like words, class 01", Some(0x0000400B), alternating(8, 9)),
+        ("nine until-like words, class 40", Some(0x0010000B), alternating(8, 9)),
+        ("nine until-like words", Some(0x0000000B), alternating(8, 9)),
+        ("nine words of U, class 0", Some(0x0000000B), chain_of(8, 9)),
+        ("nine words of U, class 40", Some(0x0010000B), chain_of(8, 9)),
+        ("nine words of U", Some(0x001E800B), chain_of(8, 9)),
         // the class of a written table is 0, wherever its written words stand
         ("G p1, class 7F", Some(0x001FC002), vec![p1, 0xE0000001]),
         ("G p1, class 7C", Some(0x001F0002), vec![p1, 0xE0000001]),

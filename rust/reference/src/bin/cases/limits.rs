@@ -1,14 +1,14 @@
 //! Limits that a house sets: 25 at the edges of both ranges, and before every other refusal; tables and texts around the limits on words;
 //! until-like words around theirs, ten of them with forms as long as any slice counts for; a house whose limits are small.
 use crate::case::{Case, Header, Step, FORM_ROOM, PLAIN_ROOM};
-use crate::forms::every_form;
-use reference::edges::{chain_of, long_forms_of_ten};
+use crate::forms::{every_form, in_result, normal_forms, plain_bits, rooms};
+use reference::edges::{alternating, bits_of, chain_of, chain_of_next, long_forms_of_ten};
 use reference::limits::Limits;
 use reference::steps::text_words;
 use reference::word::Word;
 
 pub fn cases() -> Vec<Case> {
-    [ranges(), first_of_all(), words(), texts(), until_like(), small_house()].concat()
+    [ranges(), first_of_all(), words(), rewritten_words(), texts(), until_like(), small_house()].concat()
 }
 
 fn house(written: usize, until_like: usize) -> Limits {
@@ -58,8 +58,12 @@ fn first_of_all() -> Vec<Case> {
         ("9", Header::Theirs, vec![p1, 0x70000001, 0x70000001]),
         ("10", Header::Theirs, vec![p1, p2]),
         ("24", Header::Other(0x00000001), vec![p1]),
-        ("11", Header::Theirs, chain_of(8, 9)),
+        ("11", Header::Theirs, alternating(8, 9)),
     ];
+    // 12 of the plain form's slice, of the normal form's, and of either on the whole way
+    let too_short = bits_of("FGF p1");
+    let too_short = [(Step::Plain, 1, 0), (Step::Normal, 1, 0), (Step::Form, 1, 1), (Step::Form, PLAIN_ROOM, 1)]
+        .map(|(step, room, second)| (step, room, second, plain_bits(&too_short, Limits::DESK)));
     let texts = [("20", " ".repeat(1_025)), ("19", "p".into()), ("2", nexts(65))];
     let mut cases = Vec::new();
     for limits in [Limits::DESK, house(0, 8), house(257, 8), house(64, 11)] {
@@ -68,7 +72,10 @@ fn first_of_all() -> Vec<Case> {
                 let case = Case::new(&format!("before {number}, {}", what(step)), step, words, PLAIN_ROOM);
                 cases.push(Case { header: header.clone(), second: PLAIN_ROOM, ..case.within(limits) });
             }
-            cases.push(Case { second: 1, ..Case::new(&format!("before 12, {}", what(step)), step, &[p1], 1).within(limits) });
+        }
+        for (step, room, second, words) in &too_short {
+            let label = format!("before 12, {}, rooms {room} and {second}", what(*step));
+            cases.push(Case { second: *second, ..Case::new(&label, *step, words, *room).within(limits) });
         }
         for (number, text) in &texts {
             cases.push(Case::of_text(&format!("before {number}, text"), text.as_bytes(), PLAIN_ROOM).within(limits));
@@ -86,12 +93,13 @@ fn nexts(words: usize) -> String {
 /// Limits on words, beside the desk's.
 const WRITTEN: [usize; 6] = [1, 2, 63, 65, 255, 256];
 
-/// Tables around the limits on words; slices that hold as many words as these allow, and one fewer; the longest plain form.
+/// Tables around the limits on words; slices that hold as many words as these allow, and one fewer. They are in Delta-2, so that no word of
+/// a result is needed for the normal form.
 fn words() -> Vec<Case> {
     let mut cases = Vec::new();
     let mut add = |written, step, chain, room| {
         let case = Case::new(&format!("{} of {chain} words, room {room}", what(step)), step, &[], room);
-        cases.push(Case { chain, second: FORM_ROOM, ..case.within(house(written, 0)) });
+        cases.push(Case { chain, ..case.within(house(written, 0)) });
     };
     for written in WRITTEN {
         for chain in written - 1..=written + 1 {
@@ -99,25 +107,59 @@ fn words() -> Vec<Case> {
             add(written, Step::Form, chain, PLAIN_ROOM);
         }
         for chain in 2 * written + 1..=2 * written + 3 {
-            add(written, Step::Normal, chain, FORM_ROOM);
+            add(written, Step::Normal, chain, 0);
         }
         for short in [0, 1] {
             add(written, Step::Plain, written, 1 + written - short);
             add(written, Step::Form, written, 1 + written - short);
-            add(written, Step::Normal, 2 * written + 2, 3 + 2 * written - short);
         }
-    }
-    for written in [64, 256] {
-        let label = format!("longest plain form of {written} words");
-        cases.extend(every_form(&label, &longest_plain(written), house(written, 2)));
     }
     cases
 }
 
-/// Every word but the last is needed wanted and denied, and so are both constants: 2 n + 1 plain words of n, 3 or more.
-fn longest_plain(words: usize) -> Vec<u32> {
-    let finally = [0x30000001, 0xD0000001];
-    finally.into_iter().chain((2..words).map(|n| Word::new(15, n, n).bits())).collect()
+/// Tables outside Delta-2 around the limits on words, F, G and F over a chain; slices of exactly the form's length, and one less; the
+/// longest plain form.
+fn rewritten_words() -> Vec<Case> {
+    let mut cases = Vec::new();
+    let mut add = |written, step, chain: usize, listed: &[u32]| {
+        let (words, limits) = ([chain_of_next(chain), listed.to_vec()].concat(), house(written, 3));
+        let length = match step {
+            Step::Normal => in_result(&words, limits),
+            _ => in_result(&plain_bits(&words, limits), limits),
+        };
+        for result in rooms(length, FORM_ROOM) {
+            let room = if step == Step::Normal { result } else { PLAIN_ROOM };
+            let label = format!("{} of {} words, outside Delta-2, room {result}", what(step), words.len());
+            cases.push(Case { chain, second: result, ..Case::new(&label, step, listed, room).within(limits) });
+        }
+    };
+    for written in WRITTEN {
+        for chain in (written - 1..=written + 1).filter_map(|words| words.checked_sub(3)).filter(|&chain| chain > 0) {
+            let over = [(13, chain), (14, chain + 1), (13, chain + 2)].map(|(kind, n)| Word::new(kind, 0, n).bits());
+            add(written, Step::Form, chain, &over);
+        }
+        for chain in (2 * written + 1..=2 * written + 3).filter_map(|words| words.checked_sub(5)).filter(|&chain| chain > 0) {
+            let [yes, no] = [chain + 1, chain + 3];
+            let over = [(2, 0, 0), (8, yes, chain), (1, 0, 0), (10, no, chain + 2), (8, yes, chain + 4)];
+            add(written, Step::Normal, chain, &over.map(|(kind, left, right)| Word::new(kind, left, right).bits()));
+        }
+    }
+    for written in [64, 256] {
+        let label = format!("longest plain form of {written} words");
+        cases.extend(every_form(&format!("{label}, in Delta-2"), &longest_plain(written, &[13]), house(written, 0)));
+        cases.extend(every_form(&label, &longest_plain(written, &[13, 14, 13]), house(written, 6)));
+    }
+    cases
+}
+
+/// Such prefixes over letter 1, and then implies: every word but the last is needed wanted and denied, and so are both constants, 2 n + 1
+/// plain words of n.
+fn longest_plain(words: usize, prefixes: &[u32]) -> Vec<u32> {
+    let over = |n: usize| match prefixes.get(n - 1) {
+        Some(&kind) => Word::new(kind, 0, n),
+        None => Word::new(15, n, n),
+    };
+    (0..words).map(|n| if n == 0 { 0x30000001 } else { over(n).bits() }).collect()
 }
 
 /// Texts around the limits on words, and around that on bytes under the highest limits.
@@ -150,43 +192,66 @@ fn texts() -> Vec<Case> {
     cases
 }
 
-/// As many until-like words as the limit allows, and one more; ten with the longest forms.
+/// As many until-like words as the limit allows, and one more, and as few as three; in Delta-2 the limit doesn't count. Ten with the longest
+/// forms.
 fn until_like() -> Vec<Case> {
     let mut cases = Vec::new();
-    for until_like in [0, 1, 9, 10] {
+    for until_like in [0, 1, 2, 3, 9, 10] {
         let limits = house(64, until_like);
         for kind in 8..12 {
-            for k in until_like.max(1)..=until_like + 1 {
-                cases.extend(every_form(&format!("{k} words of kind {kind}"), &chain_of(kind, k), limits));
+            for k in until_like.max(3)..=until_like.max(2) + 1 {
+                cases.extend(normal_forms(&format!("{k} alternating words from kind {kind}"), &alternating(kind, k), limits));
+            }
+            for k in [until_like + 1, 20] {
+                cases.extend(normal_forms(&format!("{k} words of kind {kind}"), &chain_of(kind, k), limits));
             }
         }
-        cases.extend(every_form("F p1", &[0x30000001, 0xD0000001], limits));
+        cases.extend(normal_forms("F p1", &[0x30000001, 0xD0000001], limits));
+        cases.extend(normal_forms("FGF p1", &bits_of("FGF p1"), limits));
     }
     for (form_words, words) in long_forms_of_ten() {
         for limits in [Limits::HIGHEST, house(words.len(), 9)] {
-            cases.extend(every_form(&format!("form of {form_words} words"), &words, limits));
+            cases.extend(normal_forms(&format!("form of {form_words} words"), &words, limits));
         }
     }
-    // ten over as long a chain as a plain table has room for
+    // ten over as long a chain as a plain table has room for, and as many of one kind as it has room for
     let ten: Vec<u32> = (504..514).map(|n| Word::new(8 + n as u32 % 4, n, 1).bits()).collect();
     let case = Case::new("ten until-like words of 514, normal form", Step::Normal, &ten, FORM_ROOM);
     cases.push(Case { chain: 504, ..case.within(Limits::HIGHEST) });
+    for (kind, limits) in (8..12).zip([house(256, 0), house(256, 0), Limits::HIGHEST, house(64, 8)]) {
+        let words = chain_of(kind, limits.plain() - 2);
+        let label = |room: usize| format!("{} words of kind {kind}, normal form, room {room}", words.len() - 2);
+        cases.extend([0, 1].map(|room| Case::new(&label(room), Step::Normal, &words, room).within(limits)));
+    }
     cases
 }
 
-/// A house of five words and one until-like word.
+/// Houses of five words, with one until-like word and with three.
 fn small_house() -> Vec<Case> {
-    let limits = house(5, 1);
     let mut cases = Vec::new();
-    for text in ["p1", "Gp1", "(p1 W p2)", "G(p1->Fp2)", "XXXXp1", "XXXXXp1", "(p1->(p2->p3))", "!(p1&Xp2)", "FGp1", "!XFGp1"] {
-        cases.push(Case::of_text(&format!("text {text}"), text.as_bytes(), 6).within(limits));
-        let words = text_words(text.as_bytes(), Limits::DESK).expect("a rule");
-        let words: Vec<u32> = words.iter().map(|word| word.bits()).collect();
-        cases.extend(every_form(text, &words, limits));
-    }
-    for chain in [12, 13] {
-        let case = Case::new(&format!("normal form of {chain} words"), Step::Normal, &[], 13);
-        cases.push(Case { chain, ..case.within(limits) });
+    for limits in [house(5, 1), house(5, 3)] {
+        for text in [
+            "p1",
+            "Gp1",
+            "(p1 W p2)",
+            "G(p1->Fp2)",
+            "XXXXp1",
+            "XXXXXp1",
+            "(p1->(p2->p3))",
+            "!(p1&Xp2)",
+            "FGp1",
+            "!XFGp1",
+            "FGFp1",
+        ] {
+            cases.push(Case::of_text(&format!("text {text}"), text.as_bytes(), 6).within(limits));
+            let words = text_words(text.as_bytes(), Limits::DESK).expect("a rule");
+            let words: Vec<u32> = words.iter().map(|word| word.bits()).collect();
+            cases.extend(every_form(text, &words, limits));
+        }
+        for chain in [12, 13] {
+            let case = Case::new(&format!("normal form of {chain} words"), Step::Normal, &[], 13);
+            cases.push(Case { chain, ..case.within(limits) });
+        }
     }
     cases
 }

@@ -4,6 +4,7 @@
 //!     cases FOLDER list   prints the label of each case, a line for each line of stdout
 mod case;
 mod comparing;
+mod delta_2;
 mod dialect;
 mod folding;
 mod forms;
@@ -19,7 +20,7 @@ use std::{env, fs, path::Path};
 fn main() {
     let folder = env::args().nth(1).expect("usage: cases FOLDER");
     let folder = Path::new(&folder);
-    let forms = [forms::cases(), folding::cases()].concat();
+    let forms = [forms::cases(), folding::cases(), delta_2::cases()].concat();
     let rules = [tables::cases(), headers::cases(), forms, judging::cases(), texts::cases(), dialect::cases()];
     let cases: Vec<Case> = [rules.concat(), limits::cases(), comparing::cases()].concat();
     if env::args().nth(2).is_some() {

@@ -2,11 +2,11 @@ use mathlib.Core.Path.{sym, _∙_}
 use denote.Ref.{now}
 use borrow.Author.Needs.{needs}
 use Rattle.claims.proofs.Promise.{within, claimed-refused, claimed-made}
-use Rattle.pipeline.proofs.normal_form.Statement.{statement}
-use Rattle.pipeline.proofs.normal_form.Tie as tie
+use Rattle.pipeline.proofs.form.Statement.{statement}
+use Rattle.pipeline.proofs.form.Tie as tie
 
-part-normalise-end : tie.Need-part-normalise-end
-part-normalise-end c =
+part-form-end : tie.Need-part-form-end
+part-form-end c =
     let a = c .before .before .before .before .before .before .before .before .before .before .before .args in
     let f = c .before .before .before .before .before .before .plain-form in
     within (a .limits) (now (a .table)) (now (a .plain)) (f .last .1 .1 .0) _ (sym (f .ensures .0) ∙ c .before .before .n .given .1) (f .kept .1 .1 .0)
@@ -21,11 +21,11 @@ returns-2 : tie.Need-returns-2
 returns-2 c =
     let a = c .before .before .before .before .before .before .before .before .before .before .before .before .before .before .before .before .args in
     let f = c .before .before .before .before .before .before .before .before .before .before .before .plain-form in
-    let g = c .before .before .normalise .ensures in
+    let g = c .before .before .form .ensures in
     claimed-made (a .limits) (now (a .table)) (now (a .plain)) (now (a .form)) (sym (f .ensures .0) ∙ c .before .before .before .before .before .before .before .n .given .1) (f .ensures .1) (g .0) (g .1)
 
-pub normal-form-spec : {M : Type 1} → statement M
-normal-form-spec =
+pub form-spec : {M : Type 1} → statement M
+form-spec =
     tie.close
     (tie.spec
     (search needs)
@@ -33,7 +33,7 @@ normal-form-spec =
     (search needs)
     (search needs)
     (search needs)
-    part-normalise-end
+    part-form-end
     (search needs)
     (search needs)
     returns

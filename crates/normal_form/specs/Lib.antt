@@ -1,0 +1,2 @@
+-- What the promises about the normal-form step cite.
+pub mod Forms
