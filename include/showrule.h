@@ -20,8 +20,8 @@
  *   - A pointer to a single number (place, form_length, ..) is never null. What the number held before a call does not matter.
  *   - A slice or number that is written lies apart from every other slice and number of the same call.
  *   - A bool is 0 or 1. One that a call writes is 0 or 1 too, whatever it held before.
- *   - A call needs stack. 512 KB have been enough for the longest and the deepest rules, and 1 MB for showrule_dialect, which has some
- *     460 KB of arrays of its own for tables of over 512 words (rust/showrule/tests/stack.rs tries them).
+ *   - A call needs stack. 512 KB have been enough for the longest and the deepest rules, and 1 MB for showrule_dialect and showrule_after,
+ *     which have some 460 and 650 KB of arrays of their own for tables of over 512 words (rust/showrule/tests/stack.rs tries them).
  */
 #ifndef SHOWRULE_H
 #define SHOWRULE_H
@@ -56,8 +56,8 @@ enum {
     SHOWRULE_TALLY_FULL = 17,          /* the named desk's judged is 4,294,967,295, or its held exceeds its judged */
     SHOWRULE_NOT_GRAMMAR = 19,         /* the text departs from the grammar; the place is the byte at which it does */
     SHOWRULE_TEXT_TOO_LONG = 20,       /* the text has over 1,024 bytes */
-    SHOWRULE_LETTER_NOT_DRIVEN = 21,   /* a word names a letter that the recording does not drive; the place is the lowest such word */
-    SHOWRULE_TOO_MANY_DRIVEN = 22,     /* the recording says that it drives over 32 letters */
+    SHOWRULE_LETTER_NOT_DRIVEN = 21,   /* a word names a letter above the driven ones; the place is the lowest such word */
+    SHOWRULE_TOO_MANY_DRIVEN = 22,     /* a recording or a sample is said to drive over 32 letters */
     SHOWRULE_COUNT_DIFFERS = 23,       /* the count in the header is not the number of words after it */
     SHOWRULE_WRONG_HEADER = 24,        /* the header's kind is not 0, or its class not that of the table */
     SHOWRULE_LIMITS_OUTSIDE = 25,      /* the limit on written words is not 1 to 256, or that on until-like words not 0 to 10 */
@@ -68,11 +68,11 @@ enum {
 /* The most of each that a call takes; of words, beside the header. */
 enum {
     SHOWRULE_MOST_BYTES = 1024,       /* bytes of a text, for text */
-    SHOWRULE_MOST_WORDS = 16383,      /* words of a table, for check, class, dialect, judge and row */
+    SHOWRULE_MOST_WORDS = 16383,      /* words of a table, for check, class, dialect, after, judge and row */
     SHOWRULE_MOST_WRITTEN = 256,      /* the highest limit on the words of a written table, for text, plain and form; the lowest is 1 */
     SHOWRULE_MOST_UNTIL_LIKE = 10,    /* the highest limit on the until-like words of a plain table, for normal and form */
     SHOWRULE_MOST_SAMPLES = 4096,     /* samples of a recording */
-    SHOWRULE_MOST_DRIVEN = 32         /* letters that a recording drives */
+    SHOWRULE_MOST_DRIVEN = 32         /* letters that a recording or a sample drives */
 };
 
 /* The limits of the program. */
@@ -131,8 +131,8 @@ uint32_t showrule_plain(const uint32_t *table, size_t length, size_t written, si
  * Any other table is rewritten: 11 where it has over `until_like` until-like words, and 12. *in_source is false, and the form is the first
  * *form_length words of the result, its header and words; later words stay. It is folded, and then numbered by first need with sharing:
  * false or a is a, a W true is true, X false is false, and so on from the leaves upward, so that the whole form may be the one word true
- * or false, and 12 measures the folded form. Nothing else is folded: a table that is its own form, plain forms, conversions and the tables
- * of texts keep their constants. A result counts for 16,383 words and the header at most.
+ * or false, and 12 measures the folded form. Beside it only remainders (showrule_after) are folded: a table that is its own form, plain
+ * forms, conversions and the tables of texts keep their constants. A result counts for 16,383 words and the header at most.
  *
  * Refused by 12, every word of the result is 0; refused otherwise, it is as it was. Refused, *in_source is false and *form_length 0. The
  * table is only read. */
@@ -146,6 +146,19 @@ uint32_t showrule_normal(const uint32_t *table, size_t length, size_t written, s
  * the table does, passes the checks of a plain table, and for each word of the table has one whose class byte is the same. Refused by 12,
  * every word of the result is 0; refused otherwise, it is as it was. Refused, *form_length is 0. */
 uint32_t showrule_dialect(const uint32_t *table, size_t length, uint32_t *result, size_t room, size_t *form_length, size_t *place);
+
+/* What remains of a plain table's rule after a sample, which drives the letters 1 to `driven`: the rule that the show has to keep from the
+ * next moment on. A letter becomes true or false, as the sample says, X a becomes a, a U b becomes b' or (a' and (a U b)), where a' and b'
+ * are what remains of a and b, W likewise, R and M with and and or exchanged; the result is folded as rewritten forms are, so that what
+ * remains may be the one word true or false. It holds from the next moment on exactly if the table's rule holds at this one, and so on over
+ * any number of calls, each of which is handed the last remainder and the next sample. It takes at most 16,383 words, and makes the checks
+ * of a table, kinds 12 to 15 being 4, then 22, 21 and 12. The bits of the sample above the driven ones are never looked at. Accepted,
+ * *table_length is the remainder's length, its header and words, numbered by first need with sharing, are the first of the result, and
+ * later words stay; n words become at most 3 n + 3, beside the header, but over 16,383 fit no slice. It passes the checks of a plain table,
+ * and names no letter that the table does not. Refused by 12, every word of the result is 0; refused otherwise, it is as it was. Refused,
+ * *table_length is 0. The table is only read, so that the rule being followed is kept. */
+uint32_t showrule_after(const uint32_t *table, size_t length, uint32_t sample, size_t driven, uint32_t *result, size_t room,
+                        size_t *table_length, size_t *place);
 
 /* The whole way, from a written table to its normal form: showrule_plain into the slice plain, then showrule_normal on exactly the table
  * that it answered, header and words, under the same limits. plain is left as showrule_plain leaves it, and where that table is its own

@@ -5,7 +5,7 @@ ghost use lib.ListN.{length};
 ghost use Rattle.refusals.specs.Refusals.{outcomeNumber, outcomePlace};
 ghost use Rattle.table.specs.Limits.{house};
 ghost use Rattle.table.specs.Header.{body, headedChecked};
-ghost use Rattle.table.specs.Frame.{classStep, plainStep, normalStep, dialectStep, outcomeOf, answerOf, resultOf, formOf};
+ghost use Rattle.table.specs.Frame.{classStep, plainStep, normalStep, dialectStep, afterStep, outcomeOf, answerOf, resultOf, formOf};
 ghost use Rattle.text.specs.Text.{textStep};
 ghost use Rattle.claims.specs.Whole.{wholeForm, wholeResult};
 ghost use Rattle.judging.specs.Judging.{judgeOutcome, rowOutcome, scratchAfter, deskOf, talliesAfter};
@@ -124,6 +124,24 @@ pub extern "C" fn showrule_dialect(
     ensures { λ r. ⌜ now (result .exit) ≡ resultOf dialectStep (now (table .entry)) (now (result .entry)) ⌝ }
 {
     table_calls::dialect(table, result, words, place)
+}
+
+// The table of what remains of a plain table's rule after a sample that drives the letters 1 to `driven`, at the front of the result.
+#[no_mangle]
+pub extern "C" fn showrule_after(
+    table: &[u32],
+    sample: u32,
+    driven: usize,
+    result: &mut [u32],
+    words: &mut usize,
+    place: &mut usize,
+) -> u32
+    ensures { λ r. ⌜ TableReply
+        (answerOf (afterStep sample driven) (now (table .entry)) (length (now (result .entry))))
+        r (now (words .exit)) (now (place .exit)) ⌝ }
+    ensures { λ r. ⌜ now (result .exit) ≡ resultOf (afterStep sample driven) (now (table .entry)) (now (result .entry)) ⌝ }
+{
+    table_calls::after(table, sample, driven, result, words, place)
 }
 
 // Whether the rule holds at the first position, at how many, and the first that fails, over a recording that drives the letters 1 to

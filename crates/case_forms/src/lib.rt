@@ -145,3 +145,24 @@ pub fn dialect(c: Case, table: &[u32]) {
     show::number(words);
     sum::form(&result);
 }
+
+// The sample stands in place of a tally's judgements.
+pub fn after(c: Case, table: &[u32]) {
+    let mut result = [0xEEEEEEEEu32; 16400];
+    let mut words: usize = 9;
+    let mut place: usize = 9;
+    let room = c.room;
+    if room <= 16400 {
+        let number = boundary::showrule_after(
+            table,
+            c.judged,
+            c.driven,
+            &mut result[0..room],
+            &mut words,
+            &mut place,
+        );
+        show::answer(number, place);
+    }
+    show::number(words);
+    sum::form(&result);
+}

@@ -15,6 +15,7 @@ fn call<'t>(c: Case, table: &'t [u32], samples: &'t [u32]) {
         7 => case_judge::row(c, table, samples),
         8 => case_forms::text(c, table),
         9 => case_forms::dialect(c, table),
+        11 => case_forms::after(c, table),
         _ => case_judge::compare(c, table, samples),
     }
     show::end();

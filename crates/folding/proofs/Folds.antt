@@ -20,7 +20,7 @@ use Rattle.folding.specs.Folded.{foldedOver, foldedSlot, Folded}
 use Rattle.folding.proofs.Roots.{slot-constantly}
 
 -- slot n is set to a slot that stands for a formula already
-drafted-copy : (e : List ℕ) (n : ℕ) → n < length e → (φ : Formula) (i : ℕ) → i < n → Drafted e φ i → Drafted (set e n (getD e i 0)) φ n
+pub drafted-copy : (e : List ℕ) (n : ℕ) → n < length e → (φ : Formula) (i : ℕ) → i < n → Drafted e φ i → Drafted (set e n (getD e i 0)) φ n
 drafted-copy e n h (const b) i l r = record { within = slot-set e n (getD e i 0) h .within; is = slot-set e n (getD e i 0) h .is ∙ r .is }
 drafted-copy e n h (lit b p) i l r = (r .0, record { within = slot-set e n (getD e i 0) h .within; is = slot-set e n (getD e i 0) h .is ∙ r .1 .is })
 drafted-copy e n h (un o a) i l r = (
@@ -74,7 +74,19 @@ module _ (e : List ℕ) (n : ℕ) (h : n < length e) (narrow : n ≤ 2 ^ 16) whe
   unfolding foldedSlot
   leaf s p q = rw (nothing (leftRule (shape (slot.kind s))) p (shape (slot.kind (getD e (slot.left s) 0))), nothing (rightRule (shape (slot.kind s))) q (shape (slot.kind (getD e (slot.right s) 0))))
 
-  folded-unary : (o : Unary) (a : Formula) (m : ℕ) → m < n → Drafted e a m → Drafted (set e n (foldedSlot (slot.pack (unaryKind o) 0 m) e)) (foldUnary o a) n
+  pub folded-constant : (b : Bool) → Drafted (set e n (foldedSlot (slot.pack (cond b 2 1) 0 0) e)) (const b) n
+  folded-constant b =
+      let s = slot.pack (cond b 2 1) 0 0 in
+      let k = kind-pack (cond b 2 1) 0 0 (omega arith) (omega arith) in
+      rw (leaf s (λ c. rw (k, shape-constant b)) (λ c. rw (k, shape-constant b))) (slot-set e n s h)
+
+  pub folded-letter : (b : Bool) (p : ℕ) → p < 16384 → Drafted (set e n (foldedSlot (slot.pack (cond b 3 4) 0 p) e)) (lit b p) n
+  folded-letter b p f =
+      let s = slot.pack (cond b 3 4) 0 p in
+      let k = kind-pack (cond b 3 4) 0 p (omega arith) (omega arith) in
+      (f, rw (leaf s (λ c. rw (k, shape-letter b)) (λ c. rw (k, shape-letter b))) (slot-set e n s h))
+
+  pub folded-unary : (o : Unary) (a : Formula) (m : ℕ) → m < n → Drafted e a m → Drafted (set e n (foldedSlot (slot.pack (unaryKind o) 0 m) e)) (foldUnary o a) n
   unfolding foldUnary
   folded-unary o a m hm q =
       let s = slot.pack (unaryKind o) 0 m in
@@ -88,7 +100,7 @@ module _ (e : List ℕ) (n : ℕ) (h : n < length e) (narrow : n ≤ 2 ^ 16) whe
       (picked (byConstant (onOperand o) a) a a (un o a) 0 m s (λ z. absurd (never-left o a z)) hm q
       (m, hm, drafted-set e n s a m h hm q, slot-set e n s h))
 
-  folded-binary : (o : Binary) (a b : Formula) (l m : ℕ) → l < n → m < n → Drafted e a l → Drafted e b m
+  pub folded-binary : (o : Binary) (a b : Formula) (l m : ℕ) → l < n → m < n → Drafted e a l → Drafted e b m
       → Drafted (set e n (foldedSlot (slot.pack (binaryKind o) l m) e)) (foldBinary o a b) n
   unfolding foldBinary
   folded-binary o a b l m hl hm p q =
@@ -110,14 +122,8 @@ module _ {d e : List ℕ} {n : ℕ} (g : Folded d e n) (h : n < length e) (narro
 
   drafted-next : (φ : Formula) → Drafted d φ n → Drafted (set e n next-slot) (fold φ) n
   unfolding fold
-  drafted-next (const b) r =
-      rw (r .is, leaf e n h (omega arith) (slot.pack (cond b 2 1) 0 0) (λ c. rw (kind-pack (cond b 2 1) 0 0 (omega arith) (omega arith), shape-constant b)) (λ c. rw (kind-pack (cond b 2 1) 0 0 (omega arith) (omega arith), shape-constant b)))
-      (slot-set e n (slot.pack (cond b 2 1) 0 0) h)
-  drafted-next (lit b p) r = (
-    r .0,
-    rw (r .1 .is, leaf e n h (omega arith) (slot.pack (cond b 3 4) 0 p) (λ c. rw (kind-pack (cond b 3 4) 0 p (omega arith) (omega (arith, r .0)), shape-letter b)) (λ c. rw (kind-pack (cond b 3 4) 0 p (omega arith) (omega (arith, r .0)), shape-letter b)))
-        (slot-set e n (slot.pack (cond b 3 4) 0 p) h),
-  )
+  drafted-next (const b) r = rw (r .is) (folded-constant e n h (omega arith) b)
+  drafted-next (lit b p) r = rw (r .1 .is) (folded-letter e n h (omega arith) b p (r .0))
   drafted-next (un o a) r = rw (r .3 .is) (folded-unary e n h (omega arith) o (fold a) (r .0) (r .1) (g .slots a (r .0) (r .1) (r .2)))
   drafted-next (bin o a b) r =
       rw (r .6 .is)

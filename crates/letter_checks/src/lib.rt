@@ -1,9 +1,9 @@
-// Letters that a recording does not drive.
+// Letters that a recording, or a sample, does not drive.
 use refusals::Outcome;
 use refusals::Refusal;
 ghost use mathlib.Core.Path.{_≡_};
 ghost use Rattle.refusals.specs.Refusals.{first};
-ghost use Rattle.table.specs.StepChecks.{isUndriven, letterChecks};
+ghost use Rattle.table.specs.StepChecks.{isUndriven, letterChecks, sampleChecks};
 
 // Whether a word names a letter that is not driven.
 fn is_undriven(word: u32, driven: usize) -> bool
@@ -27,4 +27,14 @@ pub fn check_letters(table: &[u32], driven: usize) -> Outcome
         i += 1;
     }
     Outcome::Accepted
+}
+
+// 22, then 21.
+pub fn check_sample(table: &[u32], driven: usize) -> Outcome
+    ensures { λ r. ⌜ r ≡ first (sampleChecks driven (now (table .entry))) ⌝ }
+{
+    if driven > 32 {
+        return Outcome::Refused(Refusal::TooManyDriven);
+    }
+    check_letters(table, driven)
 }

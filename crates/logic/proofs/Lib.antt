@@ -9,3 +9,4 @@ pub mod Lasso
 pub mod Normal
 pub mod Dialect
 pub mod Folding
+pub mod After

@@ -12,6 +12,7 @@ pub mod Rewriting
 pub mod NormalForm
 pub mod Dialect
 pub mod Folding
+pub mod After
 -- What is computed and proved equal: truth as a Bool, and the class byte from the operands' bytes.
 pub mod Truth
 pub mod ClassStep

@@ -10,3 +10,5 @@ pub mod Stated
 pub mod Frame
 pub mod Normal
 pub mod Cases
+pub mod AfterCases
+pub mod AfterStep

@@ -15,8 +15,8 @@ use Rattle.table.specs.declared.limits.Limits.{Limits}
 use Rattle.refusals.specs.Refusals.{Check, first, reportOf, outcomeReport, numberOf}
 use Rattle.table.specs.Limits.{plainLimit, mostWords}
 use Rattle.table.specs.Header.{headed, body, headedChecks}
-use Rattle.table.specs.StepChecks.{limitChecks, fixpointChecks, resultChecks}
-use Rattle.table.specs.Steps.{classBytes, plainTable, isNormal, normalTable, formTable, dialectTable}
+use Rattle.table.specs.StepChecks.{limitChecks, fixpointChecks, resultChecks, sampleChecks}
+use Rattle.table.specs.Steps.{classBytes, plainTable, isNormal, normalTable, formTable, dialectTable, afterTable}
 
 -- what a step checks of what is handed over, before 12, and what it makes of it
 pub record Step : Type 0 where
@@ -47,6 +47,13 @@ normalStep l = stated l (record {
 -- document 02, N4
 abbrev pub dialectStep : Step
 dialectStep = record { checks = headedChecks true mostWords; makes = λ s. headed (dialectTable (body s)) }
+
+-- document 02, N12, by a sample and how many letters it drives: 22 and 21 after the checks of the table
+abbrev pub afterStep : ℕ → ℕ → Step
+afterStep v driven = record {
+  checks = λ s. headedChecks true mostWords s ++ sampleChecks driven (body s);
+  makes = λ s. headed (afterTable v (body s));
+}
 
 -- 12 is looked at last, for the slice that the words are to be written to
 unfoldable pub outcomeOf : Step → List ℕ → ℕ → Outcome

@@ -3,7 +3,7 @@
 -- The judge's, 13 to 17, stand with the judge.
 use Prim.Native.Nat.{ℕ, zero, suc, _%_, min}
 use mathlib.Core.Bool.{Bool, not, _&&_, cond}
-use mathlib.Core.List.{List, [], _∷_}
+use mathlib.Core.List.{List, [], _∷_, _++_}
 use lib.Dec.{ltb, leb, eqb}
 use Rattle.refusals.specs.declared.Refusal.the-variants.{TooManyFixpoints, ResultTooShort, NotWords, LetterNotDriven, TooManyDriven, LimitsOutside}
 use Rattle.refusals.specs.Refusals.{Check, _⇒_}
@@ -50,3 +50,7 @@ isUndriven driven w = isProposition (holdsRight w) && ltb driven (right w)
 unfoldable pub letterChecks : ℕ → ℕ → List ℕ → List Check
 letterChecks driven n [] = []
 letterChecks driven n (w ∷ ws) = (isUndriven driven w ⇒ LetterNotDriven n) ∷ letterChecks driven (suc n) ws
+
+-- of words and a sample: 22, then 21
+abbrev pub sampleChecks : ℕ → List ℕ → List Check
+sampleChecks driven t = drivenChecks driven ++ letterChecks driven 1 t

@@ -10,6 +10,7 @@ use Rattle.logic.specs.NegationNormalForm.{plain}
 use Rattle.logic.specs.NormalForm.{keep, isFixpoint, normalForm}
 use Rattle.logic.specs.Dialect.{dialect}
 use Rattle.logic.specs.Folding.{fold}
+use Rattle.logic.specs.After.{after}
 use Rattle.table.specs.Table.{formulas, rule}
 use Rattle.table.specs.Numbering.{tableOf}
 
@@ -38,3 +39,7 @@ formTable t = cond (isNormal t) t (normalTable t)
 
 unfoldable pub dialectTable : List ℕ → List ℕ
 dialectTable t = tableOf (dialect (rule t))
+
+-- what remains of the rule after a sample, folded as forms are (document 02, N12)
+unfoldable pub afterTable : ℕ → List ℕ → List ℕ
+afterTable v t = tableOf (fold (after v (rule t)))

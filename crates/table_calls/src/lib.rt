@@ -5,7 +5,7 @@ ghost use lib.ListN.{length};
 ghost use Rattle.refusals.specs.Refusals.{outcomeNumber, outcomePlace};
 ghost use Rattle.table.specs.Limits.{house};
 ghost use Rattle.table.specs.Header.{headedChecked};
-ghost use Rattle.table.specs.Frame.{classStep, dialectStep, outcomeOf, answerOf, resultOf};
+ghost use Rattle.table.specs.Frame.{classStep, dialectStep, afterStep, outcomeOf, answerOf, resultOf};
 ghost use Rattle.text.specs.Text.{textStep};
 ghost use Rattle.replies.specs.Replies.{TableReply};
 use replies::reply;
@@ -54,4 +54,21 @@ pub fn dialect(table: &[u32], result: &mut [u32], words: &mut usize, place: &mut
     ensures { λ r. ⌜ now (result .exit) ≡ resultOf dialectStep (now (table .entry)) (now (result .entry)) ⌝ }
 {
     table_reply(dialect::convert(table, result), words, place)
+}
+
+// The table of what remains of a plain table's rule after a sample, at the front of the result.
+pub fn after(
+    table: &[u32],
+    sample: u32,
+    driven: usize,
+    result: &mut [u32],
+    words: &mut usize,
+    place: &mut usize,
+) -> u32
+    ensures { λ r. ⌜ TableReply
+        (answerOf (afterStep sample driven) (now (table .entry)) (length (now (result .entry))))
+        r (now (words .exit)) (now (place .exit)) ⌝ }
+    ensures { λ r. ⌜ now (result .exit) ≡ resultOf (afterStep sample driven) (now (table .entry)) (now (result .entry)) ⌝ }
+{
+    table_reply(after::step(table, sample, driven, result), words, place)
 }

@@ -4,11 +4,13 @@ use crate::input::Input;
 use crate::numbers::Numbers;
 use reference::edges::{
     alternating, bits_of, chain_of, chain_of_ands, chain_of_next, constant_forms, headed, limits_for, long_forms,
-    long_forms_of_ten, long_unfolded, nested, outside_words, over_constants,
+    long_forms_of_ten, long_unfolded, nested, outside_words, over_constants, over_next,
 };
 use reference::limits::Limits;
 use reference::rules::rules;
+use reference::steps::plain_words;
 use reference::texts::texts;
+use reference::word::Word;
 
 pub fn inputs() -> Vec<Input> {
     // words, which get their header
@@ -21,6 +23,10 @@ pub fn inputs() -> Vec<Input> {
     tables.extend((3..=10).flat_map(|k| [8, 9, 10, 11].map(|kind| alternating(kind, k))));
     // conversions as long as any slice counts for, and longer
     tables.extend([8_190, 8_191].into_iter().flat_map(|k| [9, 11].map(|kind| chain_of(kind, k))));
+    // remainders likewise
+    tables.extend([5_460, 5_461].into_iter().flat_map(|k| [8, 10].map(|kind| over_next(kind, k))));
+    tables.extend([16_380, 16_381].map(|n| [chain_of_next(n), vec![Word::new(9, n, n - 1).bits()]].concat()));
+    tables.extend([20, 510, 511].into_iter().flat_map(|k| [8, 9, 10, 11].map(|kind| over_next(kind, k))));
     tables.extend(constant_forms().into_iter().map(|(_, words)| words));
     // just inside Delta-2, and just outside it by an X
     let sides = ["GF p1 & FG p2", "GF p1 | FG p2", "GF(p1 | X p2) & (p1 U G p2)"];
@@ -45,6 +51,12 @@ pub fn inputs() -> Vec<Input> {
             let of_letter = with_text(&mut Numbers::new(9, n), Limits::DESK, headed(&[0x3000_0001]), text.clone());
             inputs.push(Input { text_table, ..of_letter });
         }
+    }
+    // rules to follow are plain
+    for (n, (_, words)) in (0..).zip(rules()) {
+        let plain = plain_words(&headed(&words), limits_for(&words)).expect("a plain form");
+        let table = headed(&plain.iter().map(|word| word.bits()).collect::<Vec<_>>());
+        inputs.extend((0..3).map(|again| with_table(&mut Numbers::new(11, n * 10 + again), table.clone())));
     }
     inputs.extend((0..).zip(limits()).map(|(n, (limits, words))| {
         let text = format!("{}p1", "X".repeat(words.len().saturating_sub(1)));

@@ -63,6 +63,7 @@ pub fn with_text(numbers: &mut Numbers, limits: Limits, table: Vec<u32>, text: V
     let tallies: Vec<Tally> = (0..numbers.one_of(&[0, 1, 1, 2, 3, 8])).map(|_| tally(numbers)).collect();
     let (start, driven) = (start(numbers, samples.len()), driven(numbers, words(&table)));
     let (others, other_start, other_driven) = recording_like(numbers, &samples, start, driven);
+    let sample = sample(numbers, &table, &samples, driven);
     Input {
         text_table: room(numbers, steps::text_words(&text, limits).map_or(20, |words| 1 + words.len())),
         text,
@@ -85,6 +86,8 @@ pub fn with_text(numbers: &mut Numbers, limits: Limits, table: Vec<u32>, text: V
         others,
         other_start,
         other_driven,
+        sample,
+        after: room(numbers, after_length(&table, sample, driven)),
         table,
     }
 }
@@ -110,6 +113,11 @@ pub fn lengths(table: &[u32], limits: Limits) -> Lengths {
         dialect: steps::dialect_words(table).map_or(0, |made| 1 + made.len()),
         form: rewritten(&headed(&plain)),
     }
+}
+
+/// The length of what the step by a sample writes, its header counted; 0 where it is refused by another check than 12.
+pub fn after_length(table: &[u32], sample: u32, driven: usize) -> usize {
+    steps::after_words(table, sample, driven).map_or(0, |made| 1 + made.len())
 }
 
 /// Limits of a house: often the program's, or such that the table or the text keeps to them or is one over; at times the lowest, the highest
@@ -392,6 +400,16 @@ fn samples(numbers: &mut Numbers, words: usize) -> Vec<u32> {
     let shares: Vec<usize> = (0..32).map(|_| numbers.one_of(&[0, 1, 4, 8, 12, 15, 16])).collect();
     let bit = |numbers: &mut Numbers, share: usize| (numbers.below(16) < share) as u32;
     (0..long).map(|_| (0..).zip(&shares).map(|(b, &share)| bit(numbers, share) << b).sum()).collect()
+}
+
+/// A sample, often one of which much remains: of most tables little more than a constant does.
+fn sample(numbers: &mut Numbers, table: &[u32], samples: &[u32], driven: usize) -> u32 {
+    let any = numbers.next() as u32;
+    if table.len() > 600 || numbers.once_in(3) {
+        return any;
+    }
+    let some = samples.iter().take(8).copied().chain([any, !any, 0, u32::MAX]);
+    some.max_by_key(|&sample| after_length(table, sample, driven)).unwrap_or(any)
 }
 
 fn start(numbers: &mut Numbers, samples: usize) -> usize {

@@ -1,4 +1,4 @@
-//! One input of every step: a text, a table, limits, a recording, tallies, and the rooms of the slices that are lent.
+//! One input of every step: a text, a table, limits, a sample, a recording, tallies, and the rooms of the slices that are lent.
 use reference::header::words;
 use reference::limits::Limits;
 use reference::recording::Recording;
@@ -19,12 +19,15 @@ pub struct Input {
     pub limit: usize,
     /// Of the class step.
     pub bytes: usize,
-    /// Of the plain-form step, of the normal-form step, of the dialect, and the two of the whole way.
+    /// Of the plain-form step, of the normal-form step, of the dialect, of the step by a sample, and the two of the whole way.
     pub plain: usize,
     pub normal: usize,
     pub dialect: usize,
+    pub after: usize,
     pub form_plain: usize,
     pub form: usize,
+    /// Of the step by a sample, which drives as many letters as the recording.
+    pub sample: u32,
     /// Of the judge and the row call.
     pub samples: Vec<u32>,
     pub start: usize,
@@ -52,14 +55,22 @@ impl Input {
 
     /// The samples with other bits above the driven ones.
     pub fn redriven(&self) -> Vec<u32> {
+        (0..).zip(&self.samples).map(|(i, &sample)| self.with_others(sample, i)).collect()
+    }
+
+    /// The sample with other bits above the driven ones.
+    pub fn redriven_sample(&self) -> u32 {
+        self.with_others(self.sample, 0)
+    }
+
+    fn with_others(&self, sample: u32, i: u32) -> u32 {
         let above = if self.driven < 32 { u32::MAX << self.driven } else { 0 };
-        let other = |i: u32| self.undriven.rotate_left(i % 32) & above;
-        (0..).zip(&self.samples).map(|(i, &sample)| sample & !above | other(i)).collect()
+        sample & !above | self.undriven.rotate_left(i % 32) & above
     }
 
     /// What shrinking makes smaller.
     pub fn size(&self) -> (usize, usize, usize, u64) {
-        let rooms = self.text_table + self.bytes + self.plain + self.normal + self.dialect;
+        let rooms = self.text_table + self.bytes + self.plain + self.normal + self.dialect + self.after;
         let rooms = rooms + self.form_plain + self.form + self.scratch;
         let numbers =
             words(&self.table).iter().map(|&w| w as u64).sum::<u64>() + self.text.iter().map(|&b| b as u64).sum::<u64>();
@@ -73,7 +84,7 @@ impl Input {
             + self.tallies.iter().map(|tally| 1 + tally.judged as u64 + tally.held as u64).sum::<u64>()
             + self.limit.min(1 << 40) as u64
             + self.plain_only as u64;
-        let bits = self.samples.iter().chain(&self.others).chain([&self.undriven]).chain(self.table.first());
+        let bits = self.samples.iter().chain(&self.others).chain([&self.undriven, &self.sample]).chain(self.table.first());
         let bits: u64 = bits.map(|s| s.count_ones() as u64).sum();
         let long = self.text.len() + self.table.len() + self.samples.len() + self.others.len();
         (long, self.table.len(), rooms, numbers + rest + bits)
@@ -89,9 +100,10 @@ impl fmt::Display for Input {
         writeln!(f, "check: plain only {}, limit {}", self.plain_only, self.limit)?;
         writeln!(
             f,
-            "rooms: bytes {}, plain {}, normal {}, dialect {}, whole way {} and {}, scratch {}",
-            self.bytes, self.plain, self.normal, self.dialect, self.form_plain, self.form, self.scratch
+            "rooms: bytes {}, plain {}, normal {}, dialect {}, remainder {}, whole way {} and {}, scratch {}",
+            self.bytes, self.plain, self.normal, self.dialect, self.after, self.form_plain, self.form, self.scratch
         )?;
+        writeln!(f, "sample {:08X}, {} letters driven", self.sample, self.driven)?;
         let (samples, start, driven) = (self.samples.len(), self.start, self.driven);
         writeln!(f, "recording of {samples} samples, loop start {start}, {driven} letters driven:{}", hex(&self.samples))?;
         let (samples, start, driven) = (self.others.len(), self.other_start, self.other_driven);

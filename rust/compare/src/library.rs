@@ -37,6 +37,7 @@ pub trait Library {
     fn plain(&self, table: &[u32], limits: Limits, result: &mut [u32], length: &mut usize, place: &mut usize) -> u32;
     fn normal(&self, table: &[u32], limits: Limits, result: &mut [u32], stands: &mut Stands, place: &mut usize) -> u32;
     fn dialect(&self, table: &[u32], result: &mut [u32], length: &mut usize, place: &mut usize) -> u32;
+    fn after(&self, table: &[u32], sample: u32, driven: usize, result: &mut [u32], length: &mut usize, place: &mut usize) -> u32;
     fn form(
         &self,
         table: &[u32],
@@ -98,6 +99,11 @@ impl Library for Product {
 
     fn dialect(&self, table: &[u32], result: &mut [u32], length: &mut usize, place: &mut usize) -> u32 {
         unsafe { ffi::showrule_dialect(table.as_ptr(), table.len(), result.as_mut_ptr(), result.len(), length, place) }
+    }
+
+    fn after(&self, table: &[u32], sample: u32, driven: usize, result: &mut [u32], length: &mut usize, place: &mut usize) -> u32 {
+        let (t, r) = (table.as_ptr(), result.as_mut_ptr());
+        unsafe { ffi::showrule_after(t, table.len(), sample, driven, r, result.len(), length, place) }
     }
 
     fn form(
@@ -221,7 +227,7 @@ fn form_told(answer: Result<Form, Refusal>, stands: &mut Stands, place: &mut usi
     number
 }
 
-fn length_told(answer: Result<usize, Refusal>, length: &mut usize, place: &mut usize) -> u32 {
+pub fn length_told(answer: Result<usize, Refusal>, length: &mut usize, place: &mut usize) -> u32 {
     let (number, made) = told(answer, place);
     *length = made.unwrap_or(0);
     number
@@ -251,6 +257,10 @@ impl Library for Reference {
 
     fn dialect(&self, table: &[u32], result: &mut [u32], length: &mut usize, place: &mut usize) -> u32 {
         length_told(steps::dialect(table, result), length, place)
+    }
+
+    fn after(&self, table: &[u32], sample: u32, driven: usize, result: &mut [u32], length: &mut usize, place: &mut usize) -> u32 {
+        length_told(steps::after(table, sample, driven, result), length, place)
     }
 
     fn form(

@@ -74,7 +74,7 @@ macro_rules! both {
 }
 
 /// Every step of both libraries; then what has to be so of a library by itself.
-const ALL: [Compared; 20] = [
+const ALL: [Compared; 23] = [
     both!(|library: &dyn Library, input: &Input| check(library, input, "check", input.plain_only, input.limit)),
     both!(|library, input| check(library, input, "check, written", false, 64)),
     both!(|library, input| check(library, input, "check, plain", true, 130)),
@@ -83,6 +83,7 @@ const ALL: [Compared; 20] = [
     both!(plain),
     both!(normal),
     both!(dialect),
+    both!(|library, input: &Input| after(library, input, "step by a sample", input.sample)),
     both!(form),
     both!(|library, input: &Input| judge(library, input, "judge", input.recording())),
     both!(|library, input: &Input| row(library, input, "row", input.recording())),
@@ -92,10 +93,15 @@ const ALL: [Compared; 20] = [
     |product, _, input| (telling(product, input), so(TELLING, &[1])),
     |product, _, input| (conversion(product, input), so(CONVERSION, &CONVERTED)),
     |_, reference, input| (conversion(reference, input), so(CONVERSION, &CONVERTED)),
-    // the judge, the row call and the comparison over samples that differ above the driven bits alone answer and leave what they did
+    |product, _, input| (following(product, input), so(FOLLOWING, &[1])),
+    // the step by a sample, the judge, the row call and the comparison over samples that differ above the driven bits alone answer and leave what they did
     |product, _, input| redriven(input, |recording| judge(product, input, REDRIVEN[0], recording)),
     |product, _, input| redriven(input, |recording| row(product, input, REDRIVEN[1], recording)),
     |product, _, input| redriven(input, |recording| recordings(product, input, REDRIVEN[2], recording)),
+    |product, _, input| {
+        let [other, own] = [input.redriven_sample(), input.sample].map(|sample| after(product, input, REDRIVEN[3], sample));
+        (other, own)
+    },
 ];
 
 /// What has to be so.
@@ -146,6 +152,15 @@ fn dialect(library: &dyn Library, input: &Input) -> Seen {
     let (mut made, mut place) = (BEFORE, BEFORE);
     let number = library.dialect(&input.table, result.slice(), &mut made, &mut place);
     Seen { step: "dialect", number, lent: vec![made as u64, place as u64], memory: held(&result) }
+}
+
+/// The table is the rule being followed, and keeps its words.
+fn after(library: &dyn Library, input: &Input, step: &'static str, sample: u32) -> Seen {
+    let (table, mut result) = (input.table.clone(), words(input.after));
+    let (mut made, mut place) = (BEFORE, BEFORE);
+    let number = library.after(&table, sample, input.driven, result.slice(), &mut made, &mut place);
+    let memory = held(&result).into_iter().chain(table.iter().map(|&word| word.into())).collect();
+    Seen { step, number, lent: vec![made as u64, place as u64], memory }
 }
 
 fn form(library: &dyn Library, input: &Input) -> Seen {
@@ -265,6 +280,39 @@ fn conversion(library: &dyn Library, input: &Input) -> Seen {
     so(CONVERSION, &lent)
 }
 
+/// N12, tried by the library's own judge: over some steps along the recording, each handed the last remainder and the next sample, none is
+/// refused but by 12, and each remainder holds at the next moment exactly if the table does at moment 0.
+fn following(library: &dyn Library, input: &Input) -> Seen {
+    let recording = input.recording();
+    let row = |table: &[u32]| {
+        let mut scratch = vec![0; words_of(table).len() * recording.len().div_ceil(64)];
+        let (mut from, mut long, mut place) = (0, 0, 0);
+        let number = library.row(table, recording, &mut scratch, &mut from, &mut long, &mut place);
+        (number == 0).then(|| scratch[from..from + long].to_vec())
+    };
+    let holds = |row: &[u64], moment: usize| row[moment / 64] >> (moment % 64) & 1 == 1;
+    let short = |table: &[u32]| table.len() * recording.len() < 5_000;
+    let mut remainder = input.table.clone();
+    let first = if short(&remainder) && checked(&remainder, true, MOST_WORDS).is_ok() { row(&remainder) } else { None };
+    let Some(first) = first else { return so(FOLLOWING, &[1]) };
+    let mut told = true;
+    let moments: Vec<usize> = recording.for_ever().take(6).collect();
+    for pair in moments.windows(2) {
+        let mut result = vec![0; 1 + MOST_WORDS];
+        let (mut made, mut place) = (0, 0);
+        let number = library.after(&remainder, recording.samples[pair[0]], recording.driven, &mut result, &mut made, &mut place);
+        result.truncate(made);
+        if number == 12 || !short(&result) {
+            break;
+        }
+        told = told && number == 0 && row(&result).is_some_and(|row| holds(&row, pair[1]) == holds(&first, 0));
+        remainder = result;
+    }
+    so(FOLLOWING, &[told.into()])
+}
+
+const FOLLOWING: &str = "what remains holds from the next moment on if the table held";
+
 fn converted(library: &dyn Library, table: &[u32]) -> Option<Vec<u32>> {
     let mut result = vec![0; 1 + MOST_WORDS];
     let (mut made, mut place) = (0, 0);
@@ -295,10 +343,11 @@ fn redriven(input: &Input, seen: impl Fn(Recording) -> Seen) -> (Seen, Seen) {
     (seen(Recording { samples: &samples, ..input.recording() }), seen(input.recording()))
 }
 
-const REDRIVEN: [&str; 3] = [
+const REDRIVEN: [&str; 4] = [
     "judge, other bits above the driven ones",
     "row, other bits above the driven ones",
     "recordings, other bits above the driven ones",
+    "step by a sample, other bits above the driven ones",
 ];
 
 /// A written table printed as text, and that text read: whether it is printed as the reference prints it, whether the table comes back

@@ -1,5 +1,5 @@
 //! Makes an input smaller as long as it still differs. The table keeps the header of its words where it can.
-use crate::generate::{lengths, Lengths};
+use crate::generate::{after_length, lengths, Lengths};
 use crate::input::Input;
 use reference::edges::headed;
 use reference::header::words;
@@ -50,16 +50,18 @@ fn changed(input: &Input, right: bool, change: &Change) -> Input {
 /// The input with slices that the results just fill.
 fn fitted(input: Input) -> Input {
     let Lengths { plain, normal, dialect, form } = lengths(&input.table, input.limits);
-    Input { plain, normal, dialect, form_plain: plain, form, ..input }
+    let after = after_length(&input.table, input.sample, input.driven);
+    Input { plain, normal, dialect, after, form_plain: plain, form, ..input }
 }
 
 /// Rooms and limits.
-const SIZES: [fn(&mut Input) -> &mut usize; 11] = [
+const SIZES: [fn(&mut Input) -> &mut usize; 12] = [
     |i| &mut i.text_table,
     |i| &mut i.bytes,
     |i| &mut i.plain,
     |i| &mut i.normal,
     |i| &mut i.dialect,
+    |i| &mut i.after,
     |i| &mut i.form_plain,
     |i| &mut i.form,
     |i| &mut i.scratch,
@@ -148,6 +150,8 @@ fn changes(input: &Input) -> Vec<Change> {
     with(Box::new(|i| i.driven = i.driven.saturating_sub(1)));
     with(Box::new(|i| i.limits.written = i.limits.written.min(257)));
     with(Box::new(|i| i.limits.until_like = i.limits.until_like.min(11)));
+    with(Box::new(|i| i.sample = 0));
+    with(Box::new(|i| i.sample &= i.sample.wrapping_sub(1)));
     with(Box::new(|i| i.undriven = 0));
     with(Box::new(|i| i.undriven &= i.undriven.wrapping_sub(1)));
     for size in SIZES {

@@ -1,10 +1,12 @@
 //! Libraries with a fault: each is found, and the input that shows it is made small.
+use crate::fixed;
 use crate::generate;
 use crate::input::Input;
-use crate::library::{Lent, Library, Reference, Stands};
+use crate::library::{length_told, Lent, Library, Reference, Stands};
 use crate::numbers::Numbers;
 use crate::run::compare;
 use crate::smallest_difference;
+use reference::after::after;
 use reference::checks::until_like;
 use reference::edges::headed;
 use reference::fold::fold;
@@ -13,9 +15,10 @@ use reference::header::{count, words};
 use reference::limits::Limits;
 use reference::listing::{list, needed};
 use reference::recording::Recording;
-use reference::steps::{is_delta_2, normal_words, plain_words, rewritten_words, unfolded, write};
-use reference::word::MOST_WORDS;
+use reference::steps::{after_words, is_delta_2, normal_words, plain_words, rewritten_words, unfolded, write};
+use reference::word::{Word, MOST_WORDS};
 use showrule::Tally;
+use std::cmp::Ordering;
 use std::collections::BTreeSet;
 
 /// The reference with one fault.
@@ -65,6 +68,10 @@ enum Fault {
     Delta2Measured,
     PlaceOfFormUnwritten,
     PlainFormCopied,
+    UndrivenStepped,
+    NextKept,
+    WordItselfDropped,
+    RemainderNotFolded,
 }
 
 impl Faulty {
@@ -105,6 +112,26 @@ impl Faulty {
             _ => {}
         }
         0
+    }
+}
+
+impl Faulty {
+    /// What the fault makes of a rule after a sample, where that is something else.
+    fn remainder(&self, table: &[u32], sample: u32) -> Option<Vec<Word>> {
+        let mut forest = Forest::new();
+        let trees = forest.of_words(words(table));
+        let remainders = after(&mut forest, &trees, |letter| sample >> (letter - 1) & 1 == 1);
+        let of = |operand: Tree| remainders[trees.iter().position(|&tree| tree == operand).expect("an operand")];
+        let rule = trees[trees.len() - 1];
+        let made = match (self.fault, forest.node(rule)) {
+            (Fault::NextKept, Node::Next(_)) => rule,
+            (Fault::WordItselfDropped, Node::Until(a, b) | Node::Weak(a, b)) => forest.grow(Node::Or(of(b), of(a))),
+            (Fault::WordItselfDropped, Node::Release(a, b) | Node::Strong(a, b)) => forest.grow(Node::And(of(b), of(a))),
+            (Fault::RemainderNotFolded, _) => return Some(list(&forest, of(rule))),
+            _ => return None,
+        };
+        let folded = fold(&mut forest, made);
+        Some(list(&forest, folded))
     }
 }
 
@@ -221,6 +248,17 @@ impl Library for Faulty {
         number
     }
 
+    fn after(&self, table: &[u32], sample: u32, driven: usize, result: &mut [u32], length: &mut usize, place: &mut usize) -> u32 {
+        // an undriven letter is stepped by its bit
+        let driven = if self.fault == Fault::UndrivenStepped && driven < 32 { 32 } else { driven };
+        let number = self.right.after(table, sample, driven, result, length, place);
+        let made = if number == 0 { self.remainder(table, sample) } else { None };
+        match made {
+            Some(made) => length_told(write(Ok(made), result), length, place),
+            None => number,
+        }
+    }
+
     fn form(
         &self,
         table: &[u32],
@@ -327,7 +365,7 @@ fn found(fault: Fault) -> Input {
     smallest_difference(&faulty, input).0
 }
 
-const FAULTS: [Fault; 39] = [
+const FAULTS: [Fault; 43] = [
     Fault::RefusalUntouched,
     Fault::WordPastTheEnd,
     Fault::PlaceOneLow,
@@ -367,6 +405,10 @@ const FAULTS: [Fault; 39] = [
     Fault::Delta2Measured,
     Fault::PlaceOfFormUnwritten,
     Fault::PlainFormCopied,
+    Fault::UndrivenStepped,
+    Fault::NextKept,
+    Fault::WordItselfDropped,
+    Fault::RemainderNotFolded,
 ];
 
 /// The most words of the smallest table that shows a fault, its header counted.
@@ -439,6 +481,31 @@ fn rules_inside_and_outside_delta_2_come_up() {
         assert!(forms.handed_back >= 150 && forms.rewritten >= 80, "{forms:?}");
         assert!(forms.over_the_limit >= 10 && forms.between_the_sides >= 10, "{forms:?}");
     }
+}
+
+/// Random and fixed tables come to remainders of one word, of fewer words than the rule, of as many and of more; and to each refusal of a
+/// sample.
+#[test]
+fn remainders_come_up() {
+    let (mut constants, mut shorter, mut same, mut longer) = (0, 0, 0, 0);
+    let (mut too_many, mut undriven) = (0, 0);
+    let random = (0..2_000).map(|n| generate::input(&mut Numbers::new(2, n)));
+    for Input { table, sample, driven, .. } in random.chain(fixed::inputs()) {
+        match after_words(&table, sample, driven).map(|made| made.len()) {
+            Ok(1) => constants += 1,
+            Ok(made) => match made.cmp(&words(&table).len()) {
+                Ordering::Less => shorter += 1,
+                Ordering::Equal => same += 1,
+                Ordering::Greater => longer += 1,
+            },
+            Err(refusal) => {
+                too_many += u32::from(refusal.number == 22);
+                undriven += u32::from(refusal.number == 21);
+            }
+        }
+    }
+    let counts = [constants, shorter, same, longer, too_many, undriven];
+    assert!(counts.iter().all(|&count| count >= 100), "{counts:?}");
 }
 
 /// What folding comes upon in a form: an operator (of two, or X) with a constant for the left operand, for the right one, or for both.

@@ -96,6 +96,11 @@ impl Faults {
         self.note(samples == 0, (RECORDING, 0, 1), 13);
         self.note(samples > 4096, (RECORDING, 0, 2), 14);
         self.note(start >= samples, (RECORDING, 0, 3), 15);
+        self.driven_count(driven)
+    }
+
+    /// Check 22.
+    pub fn driven_count(&mut self, driven: usize) -> &mut Faults {
         self.note(driven > 32, (RECORDING, 0, 4), 22);
         self
     }

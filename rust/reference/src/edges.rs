@@ -43,6 +43,14 @@ fn until_like_chain(k: usize, kind: impl Fn(usize) -> u32) -> Vec<u32> {
     table
 }
 
+/// X of letter 1, and k words of one until-like kind, each over the word before and the X: no operand becomes a constant by a sample, so
+/// that what remains has each word, and two more for it (document 02, N12).
+pub fn over_next(kind: u32, k: usize) -> Vec<u32> {
+    let mut words = chain_of_next(2);
+    words.extend((0..k).map(|n| Word::new(kind, n + 2, 2).bits()));
+    words
+}
+
 /// A rule outside Delta-2 in which this one stands, whatever its class: under U, G and F.
 pub fn outside(text: &str) -> String {
     format!("FG(p9 U {text})")

@@ -4,6 +4,7 @@
 //!
 //! `steps` has every step as a desk calls it, slices and all; the other modules say what the steps are made of.
 
+pub mod after;
 pub mod checks;
 pub mod class;
 pub mod dialect;

@@ -1,5 +1,6 @@
 //! Every step as a desk calls it: the reply, and what each lent slice holds afterwards, refused calls included. Every table, handed in or
 //! made, has its header in front. The steps that make a written, a plain or a normal form take the limits of the house.
+use crate::after::after as remainders;
 use crate::checks::{fits, until_like, Faults, Refusal};
 use crate::class::{Class, Classes};
 use crate::dialect::convert;
@@ -117,6 +118,21 @@ pub fn dialect_words(table: &[u32]) -> Result<Vec<Word>, Refusal> {
     Ok(list(&forest, converted[converted.len() - 1]))
 }
 
+/// The words of what remains of the rule after a sample (document 02, N12), folded and then numbered as forms are, by every check but 12: 22
+/// and 21 apply to a sample as to a recording.
+pub fn after_words(table: &[u32], sample: u32, driven: usize) -> Result<Vec<Word>, Refusal> {
+    Faults::default().table(table, true, MOST_WORDS).driven_count(driven).driven(words(table), driven).first()?;
+    let mut forest = Forest::new();
+    let trees = forest.of_words(words(table));
+    let holds = |letter: usize| {
+        assert!((1..=driven).contains(&letter), "letter {letter} is not driven");
+        sample >> (letter - 1) & 1 == 1
+    };
+    let remaining = remainders(&mut forest, &trees, holds)[trees.len() - 1];
+    let folded = fold(&mut forest, remaining);
+    Ok(list(&forest, folded))
+}
+
 /// Writes a table, header and words, to the front of a slice: check 12. The length counts the header.
 pub fn write(words: Result<Vec<Word>, Refusal>, result: &mut [u32]) -> Result<usize, Refusal> {
     let words = words?;
@@ -176,6 +192,11 @@ pub fn hand_back(table: &[u32], made: Option<Vec<Word>>, result: &mut [u32]) -> 
 
 pub fn dialect(table: &[u32], result: &mut [u32]) -> Result<usize, Refusal> {
     write(dialect_words(table), result)
+}
+
+/// The table is only read: where the remainder is refused, the rule being followed is kept.
+pub fn after(table: &[u32], sample: u32, driven: usize, result: &mut [u32]) -> Result<usize, Refusal> {
+    write(after_words(table, sample, driven), result)
 }
 
 /// The whole way: the normal-form step is handed exactly the table that the plain-form step answered, its header too, which is the source

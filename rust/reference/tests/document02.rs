@@ -1,12 +1,12 @@
 //! Document 02's sentences about texts (N1), driven letters (N3), the dialect without W and M (N4), the header (N5), the limits that a
-//! house sets (N6), the order of the parts (N7), folding (N8), the tallies (N9), two recordings (N10) and rules already in the form (N11), held
-//! to the reference itself.
+//! house sets (N6), the order of the parts (N7), folding (N8), the tallies (N9), two recordings (N10), rules already in the form (N11) and
+//! following a show (N12), held to the reference itself.
 use reference::checks::Refusal;
-use reference::edges::{alternating, chain_of, chain_of_next, headed};
+use reference::edges::{alternating, chain_of, chain_of_next, headed, over_next};
 use reference::limits::Limits;
 use reference::recording::Recording;
 use reference::steps::{
-    check, classify, compare, dialect, form, judge, normal, plain, plain_words, rewritten_words, row, text, Form, Tally,
+    after, check, classify, compare, dialect, form, judge, normal, plain, plain_words, rewritten_words, row, text, Form, Tally,
 };
 use reference::word::Word;
 
@@ -491,4 +491,73 @@ fn the_whole_way_hands_back_the_plain_table_or_the_result() {
     assert_eq!((made, &result[..form.len()]), (Ok(Form::Result(form.len())), &form[..]));
     assert_eq!(way("FGFp1", Limits::DESK, 7, 1), (Err((12, 0)), plain.clone(), vec![0]));
     assert_eq!(way("FGFp1", house(64, 2), 7, 1), (Err((11, 6)), plain, vec![7]));
+}
+
+/// N12: what remains of these words, or the refusal's number and place, with room for so many words beside the header.
+fn remaining(words: &[u32], sample: u32, driven: usize, room: usize) -> Result<Vec<u32>, (u32, usize)> {
+    let (table, mut result) = (headed(words), vec![7; 1 + room]);
+    let made = after(&table, sample, driven, &mut result);
+    match made {
+        Ok(length) => assert!(result[length..].iter().all(|&word| word == 7)),
+        Err(Refusal { number: 12, .. }) => assert!(result.iter().all(|&word| word == 0)),
+        Err(_) => assert!(result.iter().all(|&word| word == 7)),
+    }
+    let length = made.map_err(|Refusal { number, place }| (number, place))?;
+    assert_eq!(result[..length], headed(&result[1..length]));
+    Ok(result[1..length].to_vec())
+}
+
+#[test]
+fn what_remains_after_a_sample() {
+    let (p1, p2, no, yes) = (0x3000_0001, 0x3000_0002, 0x1000_0000, 0x2000_0000);
+    let until = [p1, p2, 0x8000_4002];
+    assert_eq!(
+        [0, 1, 2, 3].map(|sample| remaining(&until, sample, 2, 3)),
+        [vec![no], until.to_vec(), vec![yes], vec![yes]].map(Ok)
+    );
+    let release = [p1, p2, 0xA000_4002];
+    assert_eq!(
+        [0, 1, 2, 3].map(|sample| remaining(&release, sample, 2, 3)),
+        [vec![no], vec![no], release.to_vec(), vec![yes]].map(Ok)
+    );
+    // X a becomes a, and is not stepped
+    assert_eq!(remaining(&[p1, 0x7000_0001], 0, 1, 1), Ok(vec![p1]));
+    // b' or (a' and the word itself), numbered by first need: p2, p1, the operands of the word, the word, and, or
+    let next = [p1, 0x7000_0001, p2, 0x7000_0003, 0x8000_8004];
+    let unfolded = [p2, p1, 0x7000_0002, 0x7000_0001, 0x8000_C004, 0x5000_8005, 0x6000_4006];
+    assert_eq!(remaining(&next, 0, 2, 7), Ok(unfolded.to_vec()));
+    assert_eq!(remaining(&next, 0, 2, 6), Err((12, 0)));
+    // whenever p1, sooner or later p2: it waits after p1, again after another, and no longer after p2
+    let always = plain_words(&read("G(p1 -> F p2)", 65).expect("a rule"), Limits::DESK).map(bits).expect("a plain form");
+    let waits = remaining(&always, 1, 2, 20).expect("a remainder");
+    assert_eq!(waits.len(), always.len() + 1);
+    let waits_twice = remaining(&waits, 1, 2, 20).expect("a remainder");
+    assert_eq!(waits_twice.len(), waits.len() + 1);
+    assert_eq!([0, 2, 3].map(|sample| remaining(&always, sample, 2, 20)), [7, 7, 7].map(|_| Ok(always.clone())));
+    let [after_waits, after_both] = [&waits, &waits_twice].map(|words| remaining(words, 2, 2, 20).expect("a remainder"));
+    assert_eq!((after_waits.len(), after_both), (always.len(), after_waits));
+}
+
+#[test]
+fn samples_are_checked_as_recordings_are() {
+    // p3 or not p5
+    let or = [0x3000_0003, 0x4000_0005, 0x6000_4002];
+    assert_eq!(
+        [0, 2, 4, 33].map(|driven| remaining(&or, 0, driven, 0)),
+        [Err((21, 1)), Err((21, 1)), Err((21, 2)), Err((22, 0))]
+    );
+    assert_eq!([0, 4, 16, 20].map(|sample| remaining(&or, sample, 5, 1)), [2, 2, 1, 2].map(|kind| Ok(vec![kind << 28])));
+    // bits above the driven ones are never looked at, and after 24
+    assert_eq!(remaining(&or, 0xFFFF_FFE0 | 16, 5, 1), remaining(&or, 16, 5, 1));
+    assert_eq!(told(after(&[0x0000_0001, 0x3000_0001], 0, 33, &mut [])), (24, 0));
+    for kind in [12, 13, 14] {
+        assert_eq!(remaining(&[0x3000_0001, (kind << 28) + 1], 0, 33, 9), Err((4, 2)));
+    }
+    // 16,383 words, none of which calls the step again
+    assert_eq!(remaining(&chain_of_next(16_384), 0, 1, 16_383), Err((23, 0)));
+    assert_eq!(remaining(&chain_of_next(16_383), 0, 1, 16_382), Ok(chain_of_next(16_382)));
+    assert_eq!(remaining(&chain_of_next(16_383), 0, 1, 16_381), Err((12, 0)));
+    // each word of U over X stays, and has two more
+    assert_eq!(remaining(&over_next(8, 5_460), 0, 1, 16_383).map(|words| words.len()), Ok(16_382));
+    assert_eq!(remaining(&over_next(8, 5_461), 0, 1, 20_000), Err((12, 0)));
 }

@@ -51,6 +51,17 @@ extern "C" {
         place: *mut usize,
     ) -> u32;
 
+    pub fn showrule_after(
+        table: *const u32,
+        length: usize,
+        sample: u32,
+        driven: usize,
+        result: *mut u32,
+        room: usize,
+        table_length: *mut usize,
+        place: *mut usize,
+    ) -> u32;
+
     pub fn showrule_form(
         table: *const u32,
         length: usize,

@@ -55,10 +55,12 @@
 
 #[allow(missing_docs)]
 pub mod ffi;
+mod following;
 mod limits;
 mod refusal;
 mod text;
 
+pub use following::{after, Following};
 pub use limits::Limits;
 use refusal::Call;
 pub use refusal::{Refusal, Side};
@@ -72,7 +74,7 @@ pub const MOST_ROOM: usize = 1 + MOST_WORDS;
 pub const MOST_TEXT_BYTES: usize = 1_024;
 /// The most samples of a recording.
 pub const MOST_SAMPLES: usize = 4_096;
-/// The most letters that a recording drives.
+/// The most letters that a recording or a sample drives.
 pub const MOST_DRIVEN: usize = 32;
 
 /// A recording: after the last sample comes the one at the loop start again, for ever.
@@ -191,7 +193,7 @@ pub fn plain_form<'a>(table: &[u32], limits: Limits, result: &'a mut [u32]) -> R
 ///
 /// Any other table is rewritten, and the part is the front of `result`; what stands past the form stays. It is folded from its leaves
 /// upward: `false | a` is `a`, `a W true` is `true`, `X false` is `false` and so on, so that the whole form may be one word, and 12 measures
-/// the folded form. Nothing else is folded.
+/// the folded form. Beside it only remainders ([`after`]) are folded.
 ///
 /// Refused as 12, every word of `result` is 0; refused otherwise, it is as it was. The words of `source` stay in every case.
 ///

@@ -95,7 +95,7 @@ pub enum Refusal {
     TextTooLong {
         bytes: usize,
     },
-    /// The recording does not drive a letter of the rule.
+    /// The recording, or the sample, does not drive a letter of the rule.
     LetterNotDriven {
         place: usize,
         letter: u32,
@@ -328,13 +328,13 @@ impl fmt::Display for Refusal {
                 write!(f, "the text has {bytes} bytes, and at most {MOST_TEXT_BYTES} are read")
             }
             Refusal::LetterNotDriven { place, letter, driven: 0 } => {
-                write!(f, "word {place} names letter {letter}, and the recording drives no letter")
+                write!(f, "word {place} names letter {letter}, and no letter is driven")
             }
             Refusal::LetterNotDriven { place, letter, driven } => {
-                write!(f, "word {place} names letter {letter}, and the recording drives letters 1 to {driven}")
+                write!(f, "word {place} names letter {letter}, and letters 1 to {driven} are driven")
             }
             Refusal::TooManyDriven { driven } => {
-                write!(f, "the recording says that it drives {driven} letters, and there are {MOST_DRIVEN}")
+                write!(f, "{driven} letters are said to be driven, and there are {MOST_DRIVEN}")
             }
             Refusal::CountDiffers { count, words } => {
                 write!(

@@ -1,7 +1,7 @@
-//! Every refusal of a table, a form and a recording: its number, its place and its sentence.
+//! Every refusal of a table, a form, a recording and a sample: its number, its place and its sentence.
 use showrule::{
-    check, classify, compare, dialect, form, from_text, judge, normal_form, plain_form, row, Limits, Recording, Refusal, Rule,
-    Tally,
+    after, check, classify, compare, dialect, form, from_text, judge, normal_form, plain_form, row, Following, Limits, Recording,
+    Refusal, Rule, Tally,
 };
 
 fn is<T: std::fmt::Debug>(answer: Result<T, Refusal>, number: u32, place: usize, sentence: &str) {
@@ -203,10 +203,10 @@ fn driven_letters() {
     let judge = |table: &[u32], driven| {
         judge(table, Recording { samples: &[0], start: 0, driven }, &mut [0; 3], &mut [Tally::default()], 0)
     };
-    is(judge(&or, 0), 21, 1, "word 1 names letter 3, and the recording drives no letter");
-    is(judge(&or, 2), 21, 1, "word 1 names letter 3, and the recording drives letters 1 to 2");
-    is(judge(&or, 4), 21, 2, "word 2 names letter 5, and the recording drives letters 1 to 4");
-    is(judge(&or, 33), 22, 0, "the recording says that it drives 33 letters, and there are 32");
+    is(judge(&or, 0), 21, 1, "word 1 names letter 3, and no letter is driven");
+    is(judge(&or, 2), 21, 1, "word 1 names letter 3, and letters 1 to 2 are driven");
+    is(judge(&or, 4), 21, 2, "word 2 names letter 5, and letters 1 to 4 are driven");
+    is(judge(&or, 33), 22, 0, "33 letters are said to be driven, and there are 32");
     assert!(judge(&or, 5).unwrap().holds);
     assert!(judge(&[0x001F_C001, 0x2000_0000], 0).unwrap().holds);
 }
@@ -219,7 +219,7 @@ fn two_recordings() {
         (one(&[], 0), 13, "the recording has no sample"),
         (one(&long, 0), 14, "the recording has 4097 samples, and at most 4096 are judged"),
         (one(&[0; 3], 3), 15, "the loop starts at moment 3, and the recording's moments are 0 to 2"),
-        (driving(&[0], 0, 33), 22, "the recording says that it drives 33 letters, and there are 32"),
+        (driving(&[0], 0, 33), 22, "33 letters are said to be driven, and there are 32"),
     ];
     for (first, number, sentence) in faulty {
         is(compare(first, sound), number, 0, sentence);
@@ -232,4 +232,53 @@ fn two_recordings() {
     let counts = "the first recording drives 1 of the letters, and the second 2: compare those that both drive";
     is(compare(sound, driving(&[0], 0, 2)), 27, 0, counts);
     is(compare(sound, driving(&[0], 1, 2)), 15, 0, "the loop starts at moment 1, and the recording's moments are 0 to 0");
+}
+
+/// p1 U p2 in plain form.
+const UNTIL: [u32; 4] = [0x001E_8003, 0x3000_0001, 0x3000_0002, 0x8000_4002];
+
+#[test]
+fn remainders() {
+    let mut result = [7; 5];
+    assert_eq!(after(&UNTIL, 1, 2, &mut result).unwrap(), UNTIL);
+    assert_eq!(result[4], 7);
+    is(after(&UNTIL, 1, 0, &mut result), 21, 1, "word 1 names letter 1, and no letter is driven");
+    is(after(&UNTIL, 1, 1, &mut result), 21, 2, "word 2 names letter 2, and letters 1 to 1 are driven");
+    is(after(&UNTIL, 1, 33, &mut result), 22, 0, "33 letters are said to be driven, and there are 32");
+    let plain = "word 2 is of kind 14, which a plain table does not have: make the plain form first";
+    is(after(&ALWAYS, 1, 33, &mut result), 4, 2, plain);
+    assert_eq!(result, [UNTIL[0], UNTIL[1], UNTIL[2], UNTIL[3], 7]);
+    is(after(&UNTIL, 1, 2, &mut result[..3]), 12, 0, "the result does not fit the slice of 3 that was lent for it");
+    assert_eq!(result, [0, 0, 0, UNTIL[3], 7]);
+}
+
+#[test]
+fn a_rule_is_kept_where_a_step_is_refused() {
+    // whenever p1, sooner or later p2, and at first p1: what remains grows while p2 is awaited
+    let always = "G(p1 -> F p2)".parse::<Rule>().unwrap();
+    let mut plain = [0; 131];
+    let plain = plain_form(&always, Limits::DESK, &mut plain).unwrap();
+    let (mut first, mut second) = ([7; 10], [7; 10]);
+    let mut following = Following::new(plain, 2, &mut first, &mut second).unwrap();
+    let lengths: Vec<usize> = [1, 1].map(|sample| following.step(sample).unwrap().len()).into();
+    assert_eq!((lengths, following.decided()), (vec![9, 10], None));
+    let kept = following.rule().to_vec();
+    is(following.step(1), 12, 0, "the result does not fit the slice of 10 that was lent for it");
+    assert_eq!(following.rule(), kept);
+    is(following.step(1), 12, 0, "the result does not fit the slice of 10 that was lent for it");
+    // p2 comes: nothing is awaited any longer
+    assert_eq!(following.step(2).unwrap().len(), 8);
+    let calm = following.step(0).unwrap().to_vec();
+    assert_eq!((following.rule(), &calm[..]), (plain, plain));
+    is(Following::new(plain, 2, &mut [7; 7], &mut [7; 10]), 12, 0, "the result does not fit the slice of 7 that was lent for it");
+    is(
+        Following::new(&ALWAYS, 2, &mut [7; 10], &mut [7; 10]),
+        4,
+        2,
+        "word 2 is of kind 14, which a plain table does not have: make the plain form first",
+    );
+    let (mut first, mut second) = ([7; 10], [7; 10]);
+    let mut following = Following::new(plain, 1, &mut first, &mut second).unwrap();
+    is(following.step(1), 21, 4, "word 4 names letter 2, and letters 1 to 1 are driven");
+    assert_eq!(following.rule(), plain);
 }

@@ -1,5 +1,5 @@
-//! A thread with 512 KB of stack is enough for every call but `dialect`, and one with 1 MB for that, as include/showrule.h says: the longest
-//! tables, and under the highest limits the deepest ones and ten until-like words.
+//! A thread with 512 KB of stack is enough for every call but `dialect` and `after`, and one with 1 MB for those, as include/showrule.h says:
+//! the longest tables, and under the highest limits the deepest ones and ten until-like words.
 use showrule::*;
 
 fn on_small_stack(work: impl FnOnce() + Send + 'static) {
@@ -56,6 +56,25 @@ fn longest_conversions() {
             assert_eq!(dialect(&table, &mut result).unwrap().len(), 16_384);
             assert_eq!(dialect(&table, &mut result[..16_383]), Err(Refusal::ResultTooShort { room: 16_383 }));
         });
+    }
+}
+
+#[test]
+fn longest_remainders() {
+    let (next, mut result) = (chain(&[7; 16_382]), vec![0; MOST_ROOM]);
+    on_stack(1_024, move || assert_eq!(after(&next, 0, 1, &mut result).unwrap(), chain(&[7; 16_381])));
+    for kind in [8, 9, 10, 11] {
+        // over X of a letter a word over itself stays, and has two more
+        let (table, mut result) = (chain(&[vec![7], vec![kind; 5_460]].concat()), vec![0; 16_385]);
+        on_stack(1_024, move || {
+            assert_eq!(after(&table, 0, 1, &mut result).unwrap().len(), 16_383);
+            assert_eq!(after(&table, 0, 1, &mut result[..16_382]), Err(Refusal::ResultTooShort { room: 16_382 }));
+        });
+        let (table, mut result) = (chain(&vec![kind; 16_382]), vec![0; 16_385]);
+        on_stack(1_024, move || assert_eq!(after(&table, 0, 1, &mut result).map(|table| table.len()), Ok(2)));
+        // up to 512 words need as little as the other calls
+        let (table, mut result) = (chain(&[vec![7], vec![kind; 510]].concat()), vec![0; 16_385]);
+        on_small_stack(move || assert_eq!(after(&table, 0, 1, &mut result).unwrap().len(), 1 + 512 + 1_020));
     }
 }
 

@@ -21,6 +21,7 @@ pub enum Step {
     Text,
     Dialect,
     Compare,
+    After,
 }
 
 #[derive(Clone)]
@@ -43,7 +44,7 @@ pub struct Case {
     pub samples: Samples,
     pub start: usize,
     pub driven: usize,
-    /// How many desks have a tally, the number of the desk that is named, and its tally.
+    /// How many desks have a tally, the number of the desk that is named, and its tally; of a step by a sample `judged` is the sample.
     pub desks: usize,
     pub desk: usize,
     pub tally: Tally,
@@ -184,6 +185,11 @@ impl Case {
             Step::Dialect => {
                 let mut result = vec![0xEEEE_EEEE; FORM_ROOM];
                 let made = steps::dialect(&table, &mut result[..self.room]);
+                format!("{}, {}{}", answer(&made), made.unwrap_or(0), words(&result))
+            }
+            Step::After => {
+                let mut result = vec![0xEEEE_EEEE; FORM_ROOM];
+                let made = steps::after(&table, self.tally.judged, self.driven, &mut result[..self.room]);
                 format!("{}, {}{}", answer(&made), made.unwrap_or(0), words(&result))
             }
             Step::Form => {

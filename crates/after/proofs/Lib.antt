@@ -1,0 +1,2 @@
+-- How the step by a sample ends.
+pub mod Ends

@@ -1,0 +1,3 @@
+-- The laws of a step while its draft is filled.
+pub mod Constants
+pub mod Forms

@@ -1,0 +1,3 @@
+-- What the draft of a step by a sample is.
+pub mod Slots
+pub mod Filling

@@ -1,0 +1,3 @@
+-- What a step by a sample leaves, and what a run of such steps does.
+pub mod Remaining
+pub mod Run

@@ -1,0 +1,2 @@
+-- A remainder numbered in rooms of a size.
+pub mod Rooms

@@ -1,0 +1,2 @@
+-- What a remainder's table is written with.
+pub mod Rooms
