@@ -70,6 +70,11 @@ impl Forest {
         self.nodes[tree.0 as usize]
     }
 
+    /// Every tree, operands first.
+    pub fn trees(&self) -> Vec<Tree> {
+        (0..self.nodes.len() as u32).map(Tree).collect()
+    }
+
     /// The tree of each word of a table that passes the checks, without its header.
     pub fn of_words(&mut self, words: &[u32]) -> Vec<Tree> {
         let mut trees: Vec<Tree> = Vec::new();

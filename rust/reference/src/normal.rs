@@ -24,8 +24,8 @@ fn in_order(k: usize) -> Vec<u32> {
     choices
 }
 
-/// The part of one choice.
-fn part(forest: &mut Forest, rule: Tree, chosen: &[Tree]) -> Tree {
+/// The part of one choice, by its chosen trees.
+pub fn part(forest: &mut Forest, rule: Tree, chosen: &[Tree]) -> Tree {
     let least = |f: &Forest, t: Tree| matches!(f.node(t), Node::Until(..) | Node::Strong(..));
     let (m, n): (Vec<Tree>, Vec<Tree>) = chosen.iter().partition(|&&t| least(forest, t));
     let mut by = Rewritings { m: m.iter().copied().collect(), n: n.iter().copied().collect(), forest, known: HashMap::new() };
