@@ -107,7 +107,7 @@ module _ {v : ℕ} {t d : List ℕ} {j : ℕ} (q : Next v t d j) where
       go i p (inl e) = rw e (record { own = drafted-set d (3 * j + 2) s (fold (wordOf t j)) (3 * j) inside (omega arith) own; step = step })
       go i p (inr b) = kept (3 * j + 2) s (omega arith) inside i p b
 
-  pub narrow : 3 * j + 2 < 2 ^ 16
+  pub narrow : 3 * j + 2 < 2 ^ 20
   narrow = omega (arith, inside, q .room .few)
 
 -- its kind is a plain one

@@ -21,7 +21,7 @@ wordOf t j = formulaOf (formulas t) j
 pub record Room (t d : List ℕ) : Type 0 where
   pub accepted : checked true 16383 t ≡ Accepted
   pub slots : 3 * length t + 3 ≤ length d
-  pub few : length d ≤ 65536
+  pub few : length d ≤ 1048576
 
 -- word j and its step stand, folded
 pub record Stepped (v : ℕ) (t d : List ℕ) (j : ℕ) : Type 0 where

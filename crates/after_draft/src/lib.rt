@@ -10,7 +10,7 @@ ghost use Rattle.after_draft.specs.Filling.{Room, Filled, Next};
 
 // A word's slot, folded over the slots so far.
 fn store(draft: &mut [u64], i: usize, kind: u32, left: usize, right: usize)
-    requires { ⌜ (i < length (now draft)) × (kind < 16) × (left < 65536) × (right < 65536) ⌝ }
+    requires { ⌜ (i < length (now draft)) × (kind < 16) × (left < 1048576) × (right < 1048576) ⌝ }
     ensures { λ r. ⌜ now (draft .exit) ≡ after.stored (now (draft .entry)) i (pack kind left right) ⌝ }
 {
     let s = folding::of(slot::pack(kind, left, right), &*draft);

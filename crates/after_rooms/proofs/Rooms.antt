@@ -21,7 +21,7 @@ use Rattle.after_rooms.specs.Rooms.{Asked}
 
 -- a room of n slots for the words of a table, and an index of m numbers
 module _ (most n m : ℕ) {t out : List ℕ} (q : Asked most t out) (slots : 3 * most + 3 ≤ n) where
-  pub room-for : n ≤ 65536 → Room t (replicate n 0)
+  pub room-for : n ≤ 1048576 → Room t (replicate n 0)
   room-for h = record {
     accepted = q .accepted;
     slots = omega (arith, length-replicate {A = ℕ} n 0, q .few);

@@ -13,7 +13,7 @@ fn write_in(
     sample: u32,
     draft: &mut [u64],
     numbers: &mut [u16],
-    stack: &mut [u16],
+    stack: &mut [u32],
     result: &mut [u32],
     index: &mut [u16],
 ) -> usize
@@ -31,7 +31,7 @@ pub fn of_64(table: &[u32], sample: u32, result: &mut [u32]) -> usize
 {
     let mut draft = [0u64; 195];
     let mut numbers = [0u16; 195];
-    let mut stack = [0u16; 195];
+    let mut stack = [0u32; 195];
     let mut index = [0u16; 392];
     write_in(
         table,
@@ -50,7 +50,7 @@ pub fn of_512(table: &[u32], sample: u32, result: &mut [u32]) -> usize
 {
     let mut draft = [0u64; 1539];
     let mut numbers = [0u16; 1539];
-    let mut stack = [0u16; 1539];
+    let mut stack = [0u32; 1539];
     let mut index = [0u16; 3080];
     write_in(
         table,
@@ -69,7 +69,7 @@ pub fn of_16383(table: &[u32], sample: u32, result: &mut [u32]) -> usize
 {
     let mut draft = [0u64; 49152];
     let mut numbers = [0u16; 49152];
-    let mut stack = [0u16; 49152];
+    let mut stack = [0u32; 49152];
     let mut index = [0u16; 32768];
     write_in(
         table,

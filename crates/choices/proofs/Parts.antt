@@ -63,7 +63,7 @@ module _ (t : List ℕ) (c n : ℕ) {s : State} where
         go (bin o a b) e = part-joined (subst (λ (φ : Formula). Grown (λ χ. foldBinary disj χ φ) s s Full Full) (sym e) (join-full (bin o a b) tt h))
 
 -- what the kind of the root tells of a part
-module _ (t folded : List ℕ) (c root : ℕ) (drafted : Drafted folded (foldedPart t c) root) (few : length folded ≤ 2 ^ 16) where
+module _ (t folded : List ℕ) (c root : ℕ) (drafted : Drafted folded (foldedPart t c) root) (few : length folded ≤ 2 ^ 20) where
   pub root-false : kind (getD folded root 0) ≡ 1 → foldedPart t c ≡ const false
   root-false e = kind-constant folded root (omega (arith, drafted-within folded (foldedPart t c) root drafted)) false (foldedPart t c) drafted e
 

@@ -58,7 +58,7 @@ outerSlot Greatest i = finallySlot i
 pub record Conjoinable (x : Fixpoint) (j : ℕ) (d : List ℕ) (next : ℕ) : Type 0 where
   pub form-before : formSlot x j < next
   pub within : next + 2 < length d
-  pub narrow : length d ≤ 2 ^ 16
+  pub narrow : length d ≤ 2 ^ 20
 
 -- three slots more: the conjunct, and what it is joined to
 pub record Conjoined (x : Fixpoint) (j : ℕ) (d : List ℕ) (next : ℕ) (e : List ℕ) (r : ℕ) : Type 0 where
@@ -77,7 +77,7 @@ pub record Joinable (x : Fixpoint) (t positions : List ℕ) (c : ℕ) (d : List 
   pub filled : Filled t c d (length t)
   pub past-words : place Opening (length t) < first
   pub long : first + 3 * conjuncts x t c ≤ length d
-  pub narrow : length d ≤ 2 ^ 16
+  pub narrow : length d ≤ 2 ^ 20
 
 -- the conjuncts were joined to what the slot before `first` stands for
 pub record Joined (x : Fixpoint) (t : List ℕ) (c : ℕ) (d : List ℕ) (first : ℕ) (e : List ℕ) (r : ℕ) : Type 0 where

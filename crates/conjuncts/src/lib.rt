@@ -33,7 +33,7 @@ pub fn is(fixpoint: Fixpoint, w: u32) -> bool
 
 // The inner operator of the conjunct of word j, over the word's form.
 pub fn inner(fixpoint: Fixpoint, j: usize) -> u64
-    requires { ⌜ formSlot fixpoint j < 65536 ⌝ }
+    requires { ⌜ formSlot fixpoint j < 1048576 ⌝ }
     ensures { λ r. ⌜ r ≡ innerSlot fixpoint (formSlot fixpoint j) ⌝ }
 {
     match fixpoint {
@@ -44,7 +44,7 @@ pub fn inner(fixpoint: Fixpoint, j: usize) -> u64
 
 // The outer operator, over the inner one at slot i.
 pub fn outer(fixpoint: Fixpoint, i: usize) -> u64
-    requires { ⌜ i < 65536 ⌝ }
+    requires { ⌜ i < 1048576 ⌝ }
     ensures { λ r. ⌜ r ≡ outerSlot fixpoint i ⌝ }
 {
     match fixpoint {

@@ -24,7 +24,7 @@ slotOf j = 2 * j + 1
 pub record Room (t d : List ℕ) : Type 0 where
   pub accepted : checked true 16383 t ≡ Accepted
   pub slots : 2 * length t + 2 ≤ length d
-  pub few : length d ≤ 65536
+  pub few : length d ≤ 1048576
 
 -- the conversions of the first n words stand
 pub record Filled (t d : List ℕ) (n : ℕ) : Type 0 where

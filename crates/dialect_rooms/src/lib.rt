@@ -12,7 +12,7 @@ fn write_in(
     table: &[u32],
     draft: &mut [u64],
     numbers: &mut [u16],
-    stack: &mut [u16],
+    stack: &mut [u32],
     result: &mut [u32],
     index: &mut [u16],
 ) -> usize
@@ -30,7 +30,7 @@ pub fn of_64(table: &[u32], result: &mut [u32]) -> usize
 {
     let mut draft = [0u64; 130];
     let mut numbers = [0u16; 130];
-    let mut stack = [0u16; 130];
+    let mut stack = [0u32; 130];
     let mut index = [0u16; 262];
     write_in(
         table,
@@ -48,7 +48,7 @@ pub fn of_512(table: &[u32], result: &mut [u32]) -> usize
 {
     let mut draft = [0u64; 1026];
     let mut numbers = [0u16; 1026];
-    let mut stack = [0u16; 1026];
+    let mut stack = [0u32; 1026];
     let mut index = [0u16; 2054];
     write_in(
         table,
@@ -66,7 +66,7 @@ pub fn of_16383(table: &[u32], result: &mut [u32]) -> usize
 {
     let mut draft = [0u64; 32768];
     let mut numbers = [0u16; 32768];
-    let mut stack = [0u16; 32768];
+    let mut stack = [0u32; 32768];
     let mut index = [0u16; 32768];
     write_in(
         table,

@@ -61,7 +61,7 @@ going-start {d} {root} {s} {numbers} stack h k l z = record {
     first : getD (set stack 0 root) 0 0 ≡ root
     first = getD-set-same stack 0 root 0 l
 
-module _ {d : List ℕ} {root : ℕ} {s e : State} {numbers stack : List ℕ} {height : ℕ} (few : length d ≤ 2 ^ 16) (g : Going d root s e numbers stack height) where
+module _ {d : List ℕ} {root : ℕ} {s e : State} {numbers stack : List ℕ} {height : ℕ} (few : length d ≤ 2 ^ 20) (g : Going d root s e numbers stack height) where
   abbrev top : ℕ
   top = getD stack (height - 1) 0
 

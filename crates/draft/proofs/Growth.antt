@@ -33,7 +33,7 @@ abbrev slotFormula : ℕ → List ℕ → ℕ → Formula
 slotFormula zero d i = const false
 slotFormula (suc n) d i = formulaBy (slotFormula n d) (getD d i 0) (shape (kind (getD d i 0)))
 
-module _ (d : List ℕ) (few : length d ≤ 2 ^ 16) where
+module _ (d : List ℕ) (few : length d ≤ 2 ^ 20) where
   drafted-formula : (φ : Formula) (n i : ℕ) → i < n → Drafted d φ i → slotFormula n d i ≡ φ
   drafted-formula φ zero i l r = absurd (not-suc-le-zero l)
   drafted-formula (const b) (suc n) i l r =
@@ -42,14 +42,14 @@ module _ (d : List ℕ) (few : length d ≤ 2 ^ 16) where
       rw (r .1 .is, kind-pack (cond b 3 4) 0 p (omega arith) (omega (arith, r .0)), shape-letter b, right-pack (cond b 3 4) 0 p (omega (arith, r .0)))
   drafted-formula (un o a) (suc n) i l r =
       let m = r .0 in
-      let hm : m < 2 ^ 16 = omega (arith, r .1, r .3 .within) in
+      let hm : m < 2 ^ 20 = omega (arith, r .1, r .3 .within) in
       rw (r .3 .is, kind-pack (unaryKind o) 0 m (omega arith) hm, shape-unary o, right-pack (unaryKind o) 0 m hm)
       (ap (un o) (drafted-formula a n m (omega (arith, r .1)) (r .2)))
   drafted-formula (bin o a b) (suc n) i l r =
       let k = r .0 in
       let m = r .1 in
-      let hk : k < 2 ^ 16 = omega (arith, r .2, r .6 .within) in
-      let hm : m < 2 ^ 16 = omega (arith, r .3, r .6 .within) in
+      let hk : k < 2 ^ 20 = omega (arith, r .2, r .6 .within) in
+      let hm : m < 2 ^ 20 = omega (arith, r .3, r .6 .within) in
       rw (r .6 .is, kind-pack (binaryKind o) k m hk hm, shape-binary o, left-pack (binaryKind o) k m hk hm, right-pack (binaryKind o) k m hm)
       (ap₂ (bin o) (drafted-formula a n k (omega (arith, r .2)) (r .4)) (drafted-formula b n m (omega (arith, r .3)) (r .5)))
 
@@ -79,7 +79,7 @@ either-hereditary t d i = record { under = under; first = first; second = second
     second o a b (inl h) = inl (h .1 .1, h .1 .3)
     second o a b (inr r) = inr (r .2 .1, omega (arith, r .1, r .2 .3), r .2 .5)
 
-module _ (d : List ℕ) (few : length d ≤ 2 ^ 16) {P : Formula → Type 0} (t : List ℕ) (apart : Distinct t) (built : Built P t) (φ : Formula) (i : ℕ) (r : Drafted d φ i) where
+module _ (d : List ℕ) (few : length d ≤ 2 ^ 20) {P : Formula → Type 0} (t : List ℕ) (apart : Distinct t) (built : Built P t) (φ : Formula) (i : ℕ) (r : Drafted d φ i) where
   abbrev s : List ℕ
   s = build t φ .table
 
@@ -119,6 +119,6 @@ module _ (d : List ℕ) (few : length d ≤ 2 ^ 16) {P : Formula → Type 0} (t 
           omega (arith, held-once s b (suc (length t + x)) (suc (length t + y)) (build-distinct t φ apart) (subst (λ (c : Formula). Held s c (suc (length t + x))) q (held (length t + x) (in-s x h))) (held (length t + y) (in-s y l)))
 
 -- a table that is built from nothing has at most a word for each slot
-pub drafted-length : (d : List ℕ) → length d ≤ 2 ^ 16 → (φ : Formula) (i : ℕ) → Drafted d φ i → length (tableOf φ) ≤ suc i
+pub drafted-length : (d : List ℕ) → length d ≤ 2 ^ 20 → (φ : Formula) (i : ℕ) → Drafted d φ i → length (tableOf φ) ≤ suc i
 unfolding tableOf
 drafted-length d few φ i r = omega (arith, drafted-growth d few [] distinct-nil (built-nil {P = Slot d i}) φ i r)

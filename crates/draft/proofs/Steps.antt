@@ -35,7 +35,7 @@ abbrev pub Stepped : List ℕ → List ℕ → List ℕ → Formula → ℕ → 
 Stepped d numbers t φ i (Operand j) = Needed d numbers t φ i j
 Stepped d numbers t φ i (Word w) = build t φ ≡ put t w
 
-module _ (d numbers t : List ℕ) (few : length d ≤ 2 ^ 16) (kept : Remembered d numbers t) (apart : Distinct t) where
+module _ (d numbers t : List ℕ) (few : length d ≤ 2 ^ 20) (kept : Remembered d numbers t) (apart : Distinct t) where
   needed : {φ : Formula} (i j : ℕ) (c : Formula) (u : Turn) → Drafted d c j → Next t φ c → j < i
       → (0 < getD numbers j 0 → Stepped d numbers t φ i u) → Stepped d numbers t φ i (needing (getD numbers j 0) j u)
   needed {φ} i j c u h k l f = go (getD numbers j 0) refl
@@ -54,15 +54,15 @@ module _ (d numbers t : List ℕ) (few : length d ≤ 2 ^ 16) (kept : Remembered
       rw (r .1 .is, k, shape-letter b, k, right-pack (cond b 3 4) 0 p (omega (arith, r .0))) (build-lit t b p)
   turn-stepped (un o a) i r =
       let m = r .0 in
-      let hm : m < 2 ^ 16 = omega (arith, r .1, r .3 .within) in
+      let hm : m < 2 ^ 20 = omega (arith, r .1, r .3 .within) in
       let k = kind-pack (unaryKind o) 0 m (omega arith) hm in
       rw (r .3 .is, k, shape-unary o, k, right-pack (unaryKind o) 0 m hm)
       (needed i m a _ (r .2) (under here) (r .1) (λ g. build-un t o a ∙ rw (held-build t a _ apart (kept .held m a (r .2) g))))
   turn-stepped (bin o a b) i r =
       let l = r .0 in
       let m = r .1 in
-      let hl : l < 2 ^ 16 = omega (arith, r .2, r .6 .within) in
-      let hm : m < 2 ^ 16 = omega (arith, r .3, r .6 .within) in
+      let hl : l < 2 ^ 20 = omega (arith, r .2, r .6 .within) in
+      let hm : m < 2 ^ 20 = omega (arith, r .3, r .6 .within) in
       let k = kind-pack (binaryKind o) l m hl hm in
       rw (r .6 .is, k, shape-binary o, k, left-pack (binaryKind o) l m hl hm, right-pack (binaryKind o) l m hm)
       (needed i l a _ (r .4) (first here) (r .2) (λ g.
@@ -78,7 +78,7 @@ module _ (d numbers t : List ℕ) (few : length d ≤ 2 ^ 16) (kept : Remembered
         go zero e = omega (arith, e)
         go (suc n) e = omega (arith, held-within t c _ (kept .held j c h (omega (arith, e))))
 
-    fielded : {x : ℕ} (k l m : ℕ) (s : Shape) → shape k ≡ s → Known s → l < 2 ^ 16 → m < 2 ^ 16 → x ≡ pack k l m
+    fielded : {x : ℕ} (k l m : ℕ) (s : Shape) → shape k ≡ s → Known s → l < 2 ^ 20 → m < 2 ^ 20 → x ≡ pack k l m
         → (arity s ≡ 0 → m < 16384) → (0 < arity s → Slotted numbers m) → (1 < arity s → Slotted numbers l) → Turnable (kind x) (left x) (right x) numbers
     fielded k l m s e q hl hm f p v w =
         let g = known-kind k (rw e q) in

@@ -17,7 +17,7 @@ pub record Remembered (d numbers built : List ℕ) : Type 0 where
 pub record Numberable (d : List ℕ) (root : ℕ) (numbers stack built : List ℕ) : Type 0 where
   pub formula : Formula
   pub drafted : Drafted d formula root
-  pub few : length d ≤ 65536
+  pub few : length d ≤ 1048576
   pub numbers-long : length d ≤ length numbers
   pub stack-long : length d ≤ length stack
   pub remembered : Remembered d numbers built

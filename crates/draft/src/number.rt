@@ -11,7 +11,7 @@ pub fn number(
     draft: &[u64],
     root: usize,
     numbers: &mut [u16],
-    stack: &mut [u16],
+    stack: &mut [u32],
     out: &mut [u32],
     index: &mut [u16],
 ) -> usize
@@ -34,13 +34,13 @@ pub fn number(
     if 0 < known {
         return known;
     }
-    stack[0] = root as u16;
+    stack[0] = root as u32;
     let mut height = 1;
     loop {
         let top = stack[height - 1] as usize;
         match turn::next(draft[top], &*numbers) {
             Turn::Operand(i) => {
-                stack[height] = i as u16;
+                stack[height] = i as u32;
                 height += 1;
             }
             Turn::Word(w) => {

@@ -47,14 +47,14 @@ left-fits (unary o) l n k p q h = omega (arith, p refl)
 left-fits (binary o) l n k p q h = omega (arith, q refl)
 
 right-fits : (s : Shape) (r n : ℕ) → (isBlank (rightField s) ≡ true → r ≡ 0) → (isOperand (rightField s) ≡ true → (0 < r) × (r < n))
-    → (isProposition (rightField s) ≡ true → (0 < r) × (r ≤ 32)) → place Opening n < 2 ^ 16 → place Opening r < 2 ^ 16
+    → (isProposition (rightField s) ≡ true → (0 < r) × (r ≤ 32)) → place Opening n < 2 ^ 20 → place Opening r < 2 ^ 20
 right-fits none r n p q l h = omega (arith, p refl)
 right-fits (constant c) r n p q l h = omega (arith, p refl)
 right-fits (letter c) r n p q l h = omega (arith, l refl)
 right-fits (unary o) r n p q l h = omega (arith, q refl)
 right-fits (binary o) r n p q l h = omega (arith, q refl)
 
-pub word-plain : {limit : ℕ} {t : List ℕ} → WellFormed true limit t → {i : ℕ} → i < length t → place Opening (suc i) < 2 ^ 16 → Plain (getD t i 0)
+pub word-plain : {limit : ℕ} {t : List ℕ} → WellFormed true limit t → {i : ℕ} → i < length t → place Opening (suc i) < 2 ^ 20 → Plain (getD t i 0)
 word-plain {t = t} f {i} h k =
     let w = f .word i h in
     let s = shape (kind (getD t i 0)) in
@@ -62,7 +62,7 @@ word-plain {t = t} f {i} h k =
       kinded = w .kinded;
       plain = w .plain refl;
       narrow = record {
-        left-fits = left-fits s (left (getD t i 0)) (suc i) (2 ^ 16) (w .blank-left) (w .operand-left) k;
+        left-fits = left-fits s (left (getD t i 0)) (suc i) (2 ^ 20) (w .blank-left) (w .operand-left) k;
         right-fits = right-fits s (right (getD t i 0)) (suc i) (w .blank-right) (w .operand-right) (w .letter) k;
       };
     }

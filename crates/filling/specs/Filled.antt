@@ -36,7 +36,7 @@ pub record Roomy (t d : List ℕ) : Type 0 where
   pub limit : ℕ
   pub accepted : checked true limit t ≡ Accepted
   pub long : draftSize t ≤ length d
-  pub narrow : length d ≤ 2 ^ 16
+  pub narrow : length d ≤ 2 ^ 20
 
 -- with its positions, and its words laid out
 pub record Fillable (t positions d : List ℕ) : Type 0 where

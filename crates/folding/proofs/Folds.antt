@@ -57,7 +57,7 @@ never-left o (lit b p) e = let z : _≡_ {A = ℕ} 0 1 = cc in omega arith
 never-left o (un p a) e = let z : _≡_ {A = ℕ} 0 1 = cc in omega arith
 never-left o (bin p a b) e = let z : _≡_ {A = ℕ} 0 1 = cc in omega arith
 
-module _ (e : List ℕ) (n : ℕ) (h : n < length e) (narrow : n ≤ 2 ^ 16) where
+module _ (e : List ℕ) (n : ℕ) (h : n < length e) (narrow : n ≤ 2 ^ 20) where
   -- a word over operands at the slots l and m, by what they make of it
   picked : (f : Fold) (a b w : Formula) (l m s : ℕ) → (f ≡ left → (l < n) × Drafted e a l) → m < n → Drafted e b m → Drafted (set e n s) w n
       → Drafted (set e n (pick f (getD e l 0) (getD e m 0) s)) (pick f a b w) n
@@ -116,7 +116,7 @@ module _ (e : List ℕ) (n : ℕ) (h : n < length e) (narrow : n ≤ 2 ^ 16) whe
       (l, m, hl, hm, drafted-set e n s a l h hl p, drafted-set e n s b m h hm q, slot-set e n s h))
 
 -- one slot more
-module _ {d e : List ℕ} {n : ℕ} (g : Folded d e n) (h : n < length e) (narrow : n < 2 ^ 16) where
+module _ {d e : List ℕ} {n : ℕ} (g : Folded d e n) (h : n < length e) (narrow : n < 2 ^ 20) where
   abbrev next-slot : ℕ
   next-slot = foldedSlot (getD d n 0) e
 

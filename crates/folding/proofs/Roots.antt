@@ -22,7 +22,7 @@ rootShape (lit b p) = letter b
 rootShape (un o a) = unary o
 rootShape (bin o a b) = binary o
 
-module _ (e : List ℕ) (i : ℕ) (narrow : i < 2 ^ 16) where
+module _ (e : List ℕ) (i : ℕ) (narrow : i < 2 ^ 20) where
   slot-shape : (φ : Formula) → Drafted e φ i → shape (kind (getD e i 0)) ≡ rootShape φ
   slot-shape (const b) r = rw (r .is, kind-pack (cond b 2 1) 0 0 (omega arith) (omega arith)) (shape-constant b)
   slot-shape (lit b p) r = rw (r .1 .is, kind-pack (cond b 3 4) 0 p (omega arith) (omega (arith, r .0))) (shape-letter b)

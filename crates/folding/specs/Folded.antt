@@ -21,7 +21,7 @@ foldedSlot s e = foldedOver s (getD e (left s) 0) (getD e (right s) 0)
 pub record Foldable (d : List ℕ) (n : ℕ) (e : List ℕ) : Type 0 where
   pub within : n ≤ length d
   pub room : n ≤ length e
-  pub narrow : n ≤ 2 ^ 16
+  pub narrow : n ≤ 2 ^ 20
 
 -- the first n slots: what stands for a formula in d stands for the folded formula in e
 pub record Folded (d e : List ℕ) (n : ℕ) : Type 0 where

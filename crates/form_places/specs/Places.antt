@@ -14,8 +14,8 @@ place Opening j = 5 * j + 4
 
 -- the slots of a word's operands fit the fields of a slot
 pub record Narrow (w : ℕ) : Type 0 where
-  pub left-fits : place Opening (left w) < 2 ^ 16
-  pub right-fits : place Opening (right w) < 2 ^ 16
+  pub left-fits : place Opening (left w) < 2 ^ 20
+  pub right-fits : place Opening (right w) < 2 ^ 20
 
 -- G and F over slot i: the constants false and true are at the slots 0 and 1
 abbrev pub globallySlot : ℕ → ℕ

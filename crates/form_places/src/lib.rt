@@ -22,7 +22,7 @@ pub enum Rewriting {
 
 // The slot of word j rewritten.
 pub fn place(rewriting: Rewriting, j: usize) -> usize
-    requires { ⌜ j < 16384 ⌝ }
+    requires { ⌜ j < 1048576 ⌝ }
     ensures { λ r. ⌜ r ≡ specs.place rewriting j ⌝ }
 {
     match rewriting {
@@ -34,7 +34,7 @@ pub fn place(rewriting: Rewriting, j: usize) -> usize
 
 // G over slot i.
 pub fn globally(i: usize) -> u64
-    requires { ⌜ i < 65536 ⌝ }
+    requires { ⌜ i < 1048576 ⌝ }
     ensures { λ r. ⌜ r ≡ specs.globallySlot i ⌝ }
 {
     slot::pack(kinds::RELEASE, FALSE_SLOT, i)
@@ -42,7 +42,7 @@ pub fn globally(i: usize) -> u64
 
 // F over slot i.
 pub fn finally(i: usize) -> u64
-    requires { ⌜ i < 65536 ⌝ }
+    requires { ⌜ i < 1048576 ⌝ }
     ensures { λ r. ⌜ r ≡ specs.finallySlot i ⌝ }
 {
     slot::pack(kinds::UNTIL, TRUE_SLOT, i)

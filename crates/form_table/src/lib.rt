@@ -17,7 +17,7 @@ pub fn form(
     draft: &mut [u64],
     folded: &mut [u64],
     numbers: &mut [u16],
-    stack: &mut [u16],
+    stack: &mut [u32],
     out: &mut [u32],
     index: &mut [u16],
 ) -> usize

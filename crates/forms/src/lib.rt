@@ -33,7 +33,7 @@ pub fn small(table: &[u32], positions: &[u8], bits: u32, out: &mut [u32]) -> usi
     let mut draft = [0u64; SHORT_SLOTS];
     let mut folded = [0u64; SHORT_SLOTS];
     let mut numbers = [0u16; SHORT_SLOTS];
-    let mut stack = [0u16; SHORT_SLOTS];
+    let mut stack = [0u32; SHORT_SLOTS];
     let mut index = [0u16; 2048];
     form_table::form(
         table,
@@ -56,7 +56,7 @@ pub fn middle(table: &[u32], positions: &[u8], bits: u32, out: &mut [u32]) -> us
     let mut draft = [0u64; MIDDLE_SLOTS];
     let mut folded = [0u64; MIDDLE_SLOTS];
     let mut numbers = [0u16; MIDDLE_SLOTS];
-    let mut stack = [0u16; MIDDLE_SLOTS];
+    let mut stack = [0u32; MIDDLE_SLOTS];
     let mut index = [0u16; 8194];
     form_table::form(
         table,
@@ -79,7 +79,7 @@ pub fn large(table: &[u32], positions: &[u8], bits: u32, out: &mut [u32]) -> usi
     let mut draft = [0u64; SLOTS];
     let mut folded = [0u64; SLOTS];
     let mut numbers = [0u16; SLOTS];
-    let mut stack = [0u16; SLOTS];
+    let mut stack = [0u32; SLOTS];
     let mut index = [0u16; 32768];
     form_table::form(
         table,

@@ -11,7 +11,7 @@ use Rattle.folding.specs.Folded.{Foldable}
 use Rattle.parts.specs.Parts.{Ready}
 
 module _ {t positions d folded : List ℕ} (q : Ready t positions d folded) (e : List ℕ) (long : length e ≡ length d) (φ : Formula) (root : ℕ) (drafted : Drafted e φ root) where
-  pub narrow : root < 2 ^ 16
+  pub narrow : root < 2 ^ 20
   narrow = omega (arith, drafted-within e φ root drafted, q .fillable .room .narrow)
 
   pub foldable : Foldable e (root + 1) folded

@@ -24,7 +24,7 @@ pub record Ready (t positions d folded : List ℕ) : Type 0 where
 pub record Numberless (folded : List ℕ) (root : ℕ) (numbers stack : List ℕ) (s : State) : Type 0 where
   pub formula : Formula
   pub drafted : Drafted folded formula root
-  pub few : length folded ≤ 2 ^ 16
+  pub few : length folded ≤ 2 ^ 20
   pub numbers-long : length folded ≤ length numbers
   pub stack-long : length folded ≤ length stack
   pub numbered : Numbered s

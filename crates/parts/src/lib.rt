@@ -30,7 +30,7 @@ pub fn number(
     folded: &[u64],
     root: usize,
     numbers: &mut [u16],
-    stack: &mut [u16],
+    stack: &mut [u32],
     out: &mut [u32],
     index: &mut [u16],
 ) -> usize

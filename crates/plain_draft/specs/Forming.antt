@@ -28,7 +28,7 @@ pub record Filled (t d : List ℕ) : Type 0 where
 pub record Asked (t d : List ℕ) (j : ℕ) : Type 0 where
   pub word : Inside t j
   pub slots : 2 * length t + 2 ≤ length d
-  pub few : length d ≤ 65536
+  pub few : length d ≤ 1048576
   pub filled : Filled t d
 
 -- d becomes e, and the form of word j, or of its denial, stands at slot r: slots that stood still stand, and those of later words are as they were

@@ -12,7 +12,7 @@ use Rattle.plain_rooms.specs.Rooms.{Empty, Asked}
 
 -- a room of n slots for the forms of a table, and an index of m numbers
 module _ (most n m : ℕ) {t out : List ℕ} (q : Asked most t out) (slots : 2 * most + 2 ≤ n) where
-  pub nothing-drafted : n ≤ 65536 → Empty t (replicate n 0)
+  pub nothing-drafted : n ≤ 1048576 → Empty t (replicate n 0)
   nothing-drafted h = record {
     limit = q .limit;
     accepted = q .accepted;

@@ -19,5 +19,5 @@ pub record Empty (t d : List ℕ) : Type 0 where
   pub limit : ℕ
   pub accepted : checked false limit t ≡ Accepted
   pub slots : 2 * length t + 2 ≤ length d
-  pub few : length d ≤ 65536
+  pub few : length d ≤ 1048576
   pub empty : (i : ℕ) → getD d i 0 ≡ 0

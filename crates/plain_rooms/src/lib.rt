@@ -26,7 +26,7 @@ fn write_in(
     table: &[u32],
     draft: &mut [u64],
     numbers: &mut [u16],
-    stack: &mut [u16],
+    stack: &mut [u32],
     result: &mut [u32],
     index: &mut [u16],
 ) -> usize
@@ -44,7 +44,7 @@ fn of_64(table: &[u32], result: &mut [u32]) -> usize
 {
     let mut draft = [0u64; 130];
     let mut numbers = [0u16; 130];
-    let mut stack = [0u16; 130];
+    let mut stack = [0u32; 130];
     let mut index = [0u16; 262];
     write_in(
         table,
@@ -62,7 +62,7 @@ fn of_256(table: &[u32], result: &mut [u32]) -> usize
 {
     let mut draft = [0u64; 514];
     let mut numbers = [0u16; 514];
-    let mut stack = [0u16; 514];
+    let mut stack = [0u32; 514];
     let mut index = [0u16; 1030];
     write_in(
         table,

@@ -71,7 +71,7 @@ pub fn recurring(w: u32, chosen: bool) -> u64
 
 // W becomes a U (b or G a'), and R becomes (a or G b') M b, with a' and b' the steady forms: `either` is the slot of the or.
 pub fn opening(w: u32, either: usize) -> u64
-    requires { ⌜ specs.Plain w × (either < 65536) ⌝ }
+    requires { ⌜ specs.Plain w × (either < 1048576) ⌝ }
     ensures { λ r. ⌜ specs.OpeningSlot w either r ⌝ }
 {
     let kind = word::kind(w);
@@ -108,7 +108,7 @@ pub fn always(w: u32) -> u64
 
 // The or: of the opening form of the other operand, and the G at slot `always`.
 pub fn either(w: u32, always: usize) -> u64
-    requires { ⌜ specs.Plain w × (always < 65536) ⌝ }
+    requires { ⌜ specs.Plain w × (always < 1048576) ⌝ }
     ensures { λ r. ⌜ specs.EitherSlot w always r ⌝ }
 {
     if word::kind(w) == kinds::WEAK {

@@ -31,7 +31,7 @@ pub fn join(
     folded: &[u64],
     root: usize,
     numbers: &mut [u16],
-    stack: &mut [u16],
+    stack: &mut [u32],
     out: &mut [u32],
     index: &mut [u16],
 ) -> Sum

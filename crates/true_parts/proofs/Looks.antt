@@ -40,7 +40,7 @@ ready-again q l f laid = record {
   long = f ∙ q .long ∙ sym l;
 }
 
-module _ (t folded : List ℕ) (c root : ℕ) (drafted : Drafted folded (foldedPart t c) root) (few : length folded ≤ 2 ^ 16) where
+module _ (t folded : List ℕ) (c root : ℕ) (drafted : Drafted folded (foldedPart t c) root) (few : length folded ≤ 2 ^ 20) where
   pub found : (k : ℕ) → c < 2 ^ k → kind (getD folded root 0) ≡ 2 → Looked t k true
   found k h e = record {
     some = λ z. (c, h, kind-constant folded root (omega (arith, drafted-within folded (foldedPart t c) root drafted)) true (foldedPart t c) drafted e);
@@ -58,7 +58,7 @@ pub none-found : (t : List ℕ) (k : ℕ) → Untrue t (2 ^ k) → Looked t k fa
 none-found t k u = record { some = λ z. absurd (false≢true z); none = λ z. u }
 
 -- what the kind of its slot tells of the opening form
-pub opened-told : (t folded : List ℕ) (c last : ℕ) {k : ℕ} → Drafted folded (openedFold t c) last → last < 2 ^ 16 → k ≡ kind (getD folded last 0) → Opened t c (eqb k 2)
+pub opened-told : (t folded : List ℕ) (c last : ℕ) {k : ℕ} → Drafted folded (openedFold t c) last → last < 2 ^ 20 → k ≡ kind (getD folded last 0) → Opened t c (eqb k 2)
 opened-told t folded c last {k} drafted narrow e = record {
   folds = λ z. kind-constant folded last narrow true (openedFold t c) drafted (sym e ∙ eqb-true k 2 z);
   stays = λ z q. eqb-false k 2 z (e ∙ constant-kind folded last true (subst (λ (φ : Formula). Drafted folded φ last) q drafted));

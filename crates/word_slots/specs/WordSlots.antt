@@ -12,7 +12,7 @@ use Rattle.rewriting.specs.Slots.{Rewritten, OpeningSlot, AlwaysSlot, EitherSlo
 -- the slots of word j lie in the draft
 pub record Inside (j : ℕ) (d : List ℕ) : Type 0 where
   pub within : place Opening j < length d
-  pub fits : place Opening j < 2 ^ 16
+  pub fits : place Opening j < 2 ^ 20
 
 -- the five slots of word j, by whether the word is chosen
 pub record Slotted (w j : ℕ) (chosen : Bool) (d : List ℕ) : Type 0 where

@@ -31,7 +31,7 @@ module _ (p : tie.After-part) where
   as-long : length folded ≡ length (start .args .draft .now)
   as-long = p .part .kept .1 .1 .1 .1 .0 ∙ start .pre .0 .ready .long
 
-  few : length folded ≤ 2 ^ 16
+  few : length folded ≤ 2 ^ 20
   few = omega (arith, as-long, start .pre .0 .ready .fillable .room .narrow)
 
   within : p .part .result < length folded

@@ -41,7 +41,7 @@ module _ (p : tie.After-part Inv-loop μ-loop) where
   abbrev t : List ℕ
   t = start at-loop .args .table .now
 
-  few : length folded ≤ 2 ^ 16
+  few : length folded ≤ 2 ^ 20
   few = omega (arith, p .part .kept .1 .1 .1 .1 .0, at-loop .loop .inv .3, start at-loop .pre .0 .long, start at-loop .pre .0 .fillable .room .narrow)
 
   within : p .part .result < length folded
