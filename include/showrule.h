@@ -9,9 +9,9 @@
  * words. A limit outside its range is 25, before any other refusal. The program keeps to 64 and 8.
  *
  * Every function takes any numbers and any words, and answers 0 when the call is accepted, or the number of the refusal, the first that
- * applies in the order of documents 01 and 02. The place is then the number of the faulty word for 3 to 11 and 21, that of a byte of the
- * text for 19, and 0 otherwise; accepted, it is 0. No function allocates, keeps a pointer, reads or writes a file, or ends the program.
- * They may run on several threads at once, on memory that no other call writes.
+ * applies in the order of documents 01 and 02. The place is then the number of the faulty word for 3 to 11 and 21 (0 for 6 of a state),
+ * that of a byte of the text for 19, and 0 otherwise; accepted, it is 0. No function allocates, keeps a pointer, reads or writes a file, or
+ * ends the program. They may run on several threads at once, on memory that no other call writes.
  *
  * What a caller keeps to; nothing checks it:
  *   - A slice is a pointer and then its length, in elements, not in bytes. It is memory of the caller, aligned for its element, that
@@ -20,8 +20,9 @@
  *   - A pointer to a single number (place, form_length, ..) is never null. What the number held before a call does not matter.
  *   - A slice or number that is written lies apart from every other slice and number of the same call.
  *   - A bool is 0 or 1. One that a call writes is 0 or 1 too, whatever it held before.
- *   - A call needs stack. 512 KB have been enough for the longest and the deepest rules, and 1 MB for showrule_dialect and showrule_after,
- *     which have some 460 and 650 KB of arrays of their own for tables of over 512 words (rust/showrule/tests/stack.rs tries them).
+ *   - A call needs stack. 512 KB have been enough for the longest and the deepest rules, but not for three calls on tables of over 512
+ *     words: 1 MB for showrule_dialect and showrule_after, which have some 500 and 730 KB of arrays of their own, and for showrule_move, with
+ *     some 490 KB, or 2 MB for it on tables of over 4,096 words, with some 1,660 KB (rust/showrule/tests/stack.rs tries them).
  */
 #ifndef SHOWRULE_H
 #define SHOWRULE_H
@@ -37,38 +38,39 @@ extern "C" {
 /* The numbers that a call answers. */
 enum {
     SHOWRULE_ACCEPTED = 0,
-    SHOWRULE_NO_WORD = 1,              /* the slice is empty, or the count in the header is 0 */
-    SHOWRULE_TOO_MANY_WORDS = 2,       /* the count is more than the step takes */
-    SHOWRULE_KIND_ZERO = 3,            /* a word of kind 0 */
-    SHOWRULE_NOT_PLAIN = 4,            /* kind 12 to 15 in a step that takes plain tables only */
-    SHOWRULE_OPERAND_ZERO = 5,         /* an operand field is 0 */
-    SHOWRULE_OPERAND_NOT_EARLIER = 6,  /* an operand is not an earlier word */
-    SHOWRULE_LETTER_OUT_OF_RANGE = 7,  /* a letter is not 1 to 32 */
-    SHOWRULE_FIELD_NOT_ZERO = 8,       /* a field that must be 0 isn't */
-    SHOWRULE_REPEATED = 9,             /* a word is the same as an earlier one */
-    SHOWRULE_UNUSED = 10,              /* a word that is not the last is used by none */
-    SHOWRULE_TOO_MANY_UNTIL_LIKE = 11, /* more until-like words than the limit, outside Delta-2; the place is the first over it */
-    SHOWRULE_RESULT_TOO_SHORT = 12,    /* the result, its header too, is longer than the slice that is lent for it */
-    SHOWRULE_NO_SAMPLE = 13,           /* the recording has no sample */
-    SHOWRULE_TOO_MANY_SAMPLES = 14,    /* it has over 4,096 */
-    SHOWRULE_LOOP_START_OUTSIDE = 15,  /* the loop start is not below the number of samples */
-    SHOWRULE_SCRATCH_TOO_SHORT = 16,   /* the scratch is shorter than the rows */
-    SHOWRULE_TALLY_FULL = 17,          /* the named desk's judged is 4,294,967,295, or its held exceeds its judged */
-    SHOWRULE_NOT_GRAMMAR = 19,         /* the text departs from the grammar; the place is the byte at which it does */
-    SHOWRULE_TEXT_TOO_LONG = 20,       /* the text has over 1,024 bytes */
-    SHOWRULE_LETTER_NOT_DRIVEN = 21,   /* a word names a letter above the driven ones; the place is the lowest such word */
-    SHOWRULE_TOO_MANY_DRIVEN = 22,     /* a recording or a sample is said to drive over 32 letters */
-    SHOWRULE_COUNT_DIFFERS = 23,       /* the count in the header is not the number of words after it */
-    SHOWRULE_WRONG_HEADER = 24,        /* the header's kind is not 0, or its class not that of the table */
-    SHOWRULE_LIMITS_OUTSIDE = 25,      /* the limit on written words is not 1 to 256, or that on until-like words not 0 to 10 */
-    SHOWRULE_DESK_OUTSIDE = 26,        /* the desk's number is not below the number of tallies */
-    SHOWRULE_DRIVEN_COUNTS_DIFFER = 27 /* two recordings that are compared drive different numbers of letters */
+    SHOWRULE_NO_WORD = 1,               /* the slice is empty, or the count in the header is 0 */
+    SHOWRULE_TOO_MANY_WORDS = 2,        /* the count is more than the step takes */
+    SHOWRULE_KIND_ZERO = 3,             /* a word of kind 0 */
+    SHOWRULE_NOT_PLAIN = 4,             /* kind 12 to 15 in a step that takes plain tables only */
+    SHOWRULE_OPERAND_ZERO = 5,          /* an operand field is 0 */
+    SHOWRULE_OPERAND_NOT_EARLIER = 6,   /* an operand is not an earlier word, or a state's number is past the last (place 0) */
+    SHOWRULE_LETTER_OUT_OF_RANGE = 7,   /* a letter is not 1 to 32 */
+    SHOWRULE_FIELD_NOT_ZERO = 8,        /* a field that must be 0 isn't */
+    SHOWRULE_REPEATED = 9,              /* a word is the same as an earlier one */
+    SHOWRULE_UNUSED = 10,               /* a word that is not the last is used by none */
+    SHOWRULE_TOO_MANY_UNTIL_LIKE = 11,  /* more until-like words than the limit, outside Delta-2; the place is the first over it */
+    SHOWRULE_RESULT_TOO_SHORT = 12,     /* the result, its header too, is longer than the slice that is lent for it */
+    SHOWRULE_NO_SAMPLE = 13,            /* the recording has no sample */
+    SHOWRULE_TOO_MANY_SAMPLES = 14,     /* it has over 4,096 */
+    SHOWRULE_LOOP_START_OUTSIDE = 15,   /* the loop start is not below the number of samples */
+    SHOWRULE_SCRATCH_TOO_SHORT = 16,    /* the scratch is shorter than the rows */
+    SHOWRULE_TALLY_FULL = 17,           /* the named desk's judged is 4,294,967,295, or its held exceeds its judged */
+    SHOWRULE_NOT_GRAMMAR = 19,          /* the text departs from the grammar; the place is the byte at which it does */
+    SHOWRULE_TEXT_TOO_LONG = 20,        /* the text has over 1,024 bytes */
+    SHOWRULE_LETTER_NOT_DRIVEN = 21,    /* a word names a letter above the driven ones; the place is the lowest such word */
+    SHOWRULE_TOO_MANY_DRIVEN = 22,      /* a recording or a sample is said to drive over 32 letters */
+    SHOWRULE_COUNT_DIFFERS = 23,        /* the count in the header is not the number of words after it */
+    SHOWRULE_WRONG_HEADER = 24,         /* the header's kind is not 0, or its class not that of the table */
+    SHOWRULE_LIMITS_OUTSIDE = 25,       /* the limit on written words is not 1 to 256, or that on until-like words not 0 to 10 */
+    SHOWRULE_DESK_OUTSIDE = 26,         /* the desk's number is not below the number of tallies */
+    SHOWRULE_DRIVEN_COUNTS_DIFFER = 27, /* two recordings that are compared drive different numbers of letters */
+    SHOWRULE_NOT_DELTA_2 = 28           /* the class of a table's last word lacks Delta-2, so that it has no automaton */
 };
 
 /* The most of each that a call takes; of words, beside the header. */
 enum {
     SHOWRULE_MOST_BYTES = 1024,       /* bytes of a text, for text */
-    SHOWRULE_MOST_WORDS = 16383,      /* words of a table, for check, class, dialect, after, judge and row */
+    SHOWRULE_MOST_WORDS = 16383,      /* words of a table, for check, class, dialect, after, states, move, judge and row */
     SHOWRULE_MOST_WRITTEN = 256,      /* the highest limit on the words of a written table, for text, plain and form; the lowest is 1 */
     SHOWRULE_MOST_UNTIL_LIKE = 10,    /* the highest limit on the until-like words of a plain table, for normal and form */
     SHOWRULE_MOST_SAMPLES = 4096,     /* samples of a recording */
@@ -159,6 +161,40 @@ uint32_t showrule_dialect(const uint32_t *table, size_t length, uint32_t *result
  * *table_length is 0. The table is only read, so that the rule being followed is kept. */
 uint32_t showrule_after(const uint32_t *table, size_t length, uint32_t sample, size_t driven, uint32_t *result, size_t room,
                         size_t *table_length, size_t *place);
+
+/* The states of the automaton that watches a rule, a plain table in Delta-2 of at most 16,383 words (source 002, section 7.2). They are the
+ * table's proper words, which are neither constant, and, nor or, each with every smallest one of the classes Sigma-1, Pi-1, Sigma-2 and
+ * Pi-2 that hold it: a word has one state or two, a letter two. The accepting ones are those with a Pi class. A state is one word: kind 1
+ * if it is accepting, else 0; left field the class's bit number, 1, 2, 4 or 5; right field the number of the table's word. They stand in
+ * rising word, then class bit, and are numbered from 1.
+ *
+ * The automaton begins in its start, and goes on by the moves of its states (showrule_move). A run on a recording, read on for ever, has at
+ * moment 0 a smallest set of states that makes the start true, and for each state of a moment, at the next one, a smallest set that makes
+ * its move by the moment's sample true. It accepts if no move is false, and every endless path comes to accepting states again and again.
+ * There is such a run exactly if the rule holds at moment 0. On any path there is at most one change between accepting and other states.
+ *
+ * The checks of a table, kinds 12 to 15 being 4, then 28 where the class byte in the header lacks bit 6, then 12. Accepted, *states is how
+ * many there are, at most twice the table's words; they are the first words of the result, without a header, and later words stay. Refused
+ * by 12, because the slice is too short or there are over 16,383, every word of the result is 0; refused otherwise, it is as it was.
+ * Refused, *states is 0. */
+uint32_t showrule_states(const uint32_t *table, size_t length, uint32_t *result, size_t room, size_t *states, size_t *place);
+
+/* The move of a state of that automaton, by its number from 1, on a sample, which drives the letters 1 to `driven`; number 0 is for the
+ * start, of which the sample is not looked at. Either is a table without a header, numbered by first need with sharing, of kinds 1, 2, 5, 6
+ * and, for a state, 3 with its number; nothing is folded.
+ *
+ * The start is the rule's own and, or and constants down to its first proper words, each the or of its states, Sigma left of Pi. The move of
+ * a letter is true or false, as the sample says. X a moves to a, in which and, or and constants stay, and each first proper word stands as
+ * the or of those of its states whose class is the state's own or lies within it. a U b moves to b' or (a' and the state itself), where in
+ * a' and b' each of those states stands for its own move; W likewise, R and M with and and or exchanged.
+ *
+ * The checks of a table, then 28, as for the states; 6 at place 0 where the number is past the last state; 22 and 21, of the start too; and
+ * 12, where the slice is too short, or there are over 16,383 words, or over 16,383 states, whatever the move. The bits of the sample above
+ * the driven ones are never looked at. Accepted, *words is how many words there are, at most 7 n + 7 for a table of n; they are the first
+ * of the result, and later words stay. Refused by 12, every word of the result is 0; refused otherwise, it is as it was. Refused, *words
+ * is 0. */
+uint32_t showrule_move(const uint32_t *table, size_t length, size_t state, uint32_t sample, size_t driven, uint32_t *result, size_t room,
+                       size_t *words, size_t *place);
 
 /* The whole way, from a written table to its normal form: showrule_plain into the slice plain, then showrule_normal on exactly the table
  * that it answered, header and words, under the same limits. plain is left as showrule_plain leaves it, and where that table is its own

@@ -27,7 +27,7 @@ fn leaf(draft: &mut [u64], j: usize, kind: u32, letter: usize, constant: u32)
 }
 
 // The constant that a letter, or its negation, is in a sample.
-fn reading(sample: u32, kind: u32, letter: usize) -> u32
+pub fn reading(sample: u32, kind: u32, letter: usize) -> u32
     requires { ⌜ (1 ≤ letter) × (letter ≤ 32) ⌝ }
     ensures { λ r. ⌜ r ≡ after.constantAt sample kind letter ⌝ }
 {

@@ -7,6 +7,7 @@ ghost use Rattle.table.specs.Limits.{house};
 ghost use Rattle.table.specs.Header.{body, headedChecked};
 ghost use Rattle.table.specs.Frame.{classStep, plainStep, normalStep, dialectStep, afterStep, outcomeOf, answerOf, resultOf, formOf};
 ghost use Rattle.text.specs.Text.{textStep};
+ghost use Rattle.automaton_steps.specs.Steps.{statesStep, moveStep};
 ghost use Rattle.claims.specs.Whole.{wholeForm, wholeResult};
 ghost use Rattle.judging.specs.Judging.{judgeOutcome, rowOutcome, scratchAfter, deskOf, talliesAfter};
 ghost use Rattle.judging.specs.Judging.{reply as judgeReply};
@@ -142,6 +143,42 @@ pub extern "C" fn showrule_after(
     ensures { λ r. ⌜ now (result .exit) ≡ resultOf (afterStep sample driven) (now (table .entry)) (now (result .entry)) ⌝ }
 {
     table_calls::after(table, sample, driven, result, words, place)
+}
+
+// The states of the automaton that watches a plain table's rule, which is in Delta-2, at the front of the result.
+#[no_mangle]
+pub extern "C" fn showrule_states(
+    table: &[u32],
+    result: &mut [u32],
+    words: &mut usize,
+    place: &mut usize,
+) -> u32
+    ensures { λ r. ⌜ TableReply
+        (answerOf statesStep (now (table .entry)) (length (now (result .entry))))
+        r (now (words .exit)) (now (place .exit)) ⌝ }
+    ensures { λ r. ⌜ now (result .exit) ≡ resultOf statesStep (now (table .entry)) (now (result .entry)) ⌝ }
+{
+    table_calls::states(table, result, words, place)
+}
+
+// The move of one of them, by its number from 1, on a sample that drives the letters 1 to `driven`, or for number 0 the start: a table
+// without a header, at the front of the result.
+#[no_mangle]
+pub extern "C" fn showrule_move(
+    table: &[u32],
+    state: usize,
+    sample: u32,
+    driven: usize,
+    result: &mut [u32],
+    words: &mut usize,
+    place: &mut usize,
+) -> u32
+    ensures { λ r. ⌜ TableReply
+        (answerOf (moveStep state sample driven) (now (table .entry)) (length (now (result .entry))))
+        r (now (words .exit)) (now (place .exit)) ⌝ }
+    ensures { λ r. ⌜ now (result .exit) ≡ resultOf (moveStep state sample driven) (now (table .entry)) (now (result .entry)) ⌝ }
+{
+    table_calls::moves(table, state, sample, driven, result, words, place)
 }
 
 // Whether the rule holds at the first position, at how many, and the first that fails, over a recording that drives the letters 1 to

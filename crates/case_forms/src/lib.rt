@@ -166,3 +166,38 @@ pub fn after(c: Case, table: &[u32]) {
     show::number(words);
     sum::form(&result);
 }
+
+pub fn states(c: Case, table: &[u32]) {
+    let mut result = [0xEEEEEEEEu32; 16400];
+    let mut words: usize = 9;
+    let mut place: usize = 9;
+    let room = c.room;
+    if room <= 16400 {
+        let number = boundary::showrule_states(table, &mut result[0..room], &mut words, &mut place);
+        show::answer(number, place);
+    }
+    show::number(words);
+    sum::form(&result);
+}
+
+// The state's number stands in place of a desk's, and the sample in place of its tally's judgements.
+pub fn moves(c: Case, table: &[u32]) {
+    let mut result = [0xEEEEEEEEu32; 16400];
+    let mut words: usize = 9;
+    let mut place: usize = 9;
+    let room = c.room;
+    if room <= 16400 {
+        let number = boundary::showrule_move(
+            table,
+            c.desk,
+            c.judged,
+            c.driven,
+            &mut result[0..room],
+            &mut words,
+            &mut place,
+        );
+        show::answer(number, place);
+    }
+    show::number(words);
+    sum::form(&result);
+}

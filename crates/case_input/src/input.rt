@@ -1,13 +1,13 @@
 // The runner's input: words, and the tables and recordings that a case is about.
 
 // A case in 19 words, in this order: the step (1 check, 2 class, 3 plain form, 4 normal form, 5 whole way, 6 judge, 7 row call, 8 text,
-// 9 dialect, 10 comparison, 11 step by a sample); how many words of a chain the table has after its header, and how many are listed, the header and those after
-// the chain; the number of a word that is replaced, the header being the first (0: none), and the word; the limits of the house, on written
+// 9 dialect, 10 comparison, 11 step by a sample, 12 states of the automaton, 13 move of a state); how many words of a chain the table has
+// after its header, and how many are listed, the header and those after the chain; the number of a word that is replaced, the header being the first (0: none), and the word; the limits of the house, on written
 // words and on fixpoints; the rooms of the lent slices; whether plain tables only, and the limit, of the check; the number of samples, the
 // loop start, the driven count, how many desks have a tally, the number of the desk that is named, its tally, and the seed of the samples
 // (0: they are listed). The listed words follow, of a text a byte a word, then the listed samples. Of a comparison the listed words are the
-// first recording's samples, and the rooms its loop start and its driven count. Of a step by a sample the sample stands in place of the
-// tally's judgements.
+// first recording's samples, and the rooms its loop start and its driven count. Of a step by a sample, and of a move, the sample stands in
+// place of the tally's judgements, and of a move the state's number in place of the desk's.
 pub struct Case {
     pub step: u32,
     pub chain: usize,

@@ -16,6 +16,8 @@ fn call<'t>(c: Case, table: &'t [u32], samples: &'t [u32]) {
         8 => case_forms::text(c, table),
         9 => case_forms::dialect(c, table),
         11 => case_forms::after(c, table),
+        12 => case_forms::states(c, table),
+        13 => case_forms::moves(c, table),
         _ => case_judge::compare(c, table, samples),
     }
     show::end();

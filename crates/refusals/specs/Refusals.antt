@@ -3,7 +3,7 @@ use Prim.Native.Nat.{ℕ}
 use mathlib.Core.Bool.{Bool, true, false}
 use mathlib.Core.List.{List, [], _∷_}
 use Rattle.refusals.specs.declared.Refusal.{Refusal}
-use Rattle.refusals.specs.declared.Refusal.the-variants.{NoWord, TooManyWords, KindZero, NotPlain, OperandZero, OperandNotEarlier, LetterOutOfRange, FieldNotZero, Repeated, Unused, TooManyFixpoints, ResultTooShort, NoSample, TooManySamples, LoopStartOutside, ScratchTooShort, TallyFull, NotWords, NotGrammar, TextTooLong, LetterNotDriven, TooManyDriven, CountDiffers, HeaderWrong, LimitsOutside, DeskOutside, DrivenCountsDiffer}
+use Rattle.refusals.specs.declared.Refusal.the-variants.{NoWord, TooManyWords, KindZero, NotPlain, OperandZero, OperandNotEarlier, LetterOutOfRange, FieldNotZero, Repeated, Unused, TooManyFixpoints, ResultTooShort, NoSample, TooManySamples, LoopStartOutside, ScratchTooShort, TallyFull, NotWords, NotGrammar, TextTooLong, LetterNotDriven, TooManyDriven, CountDiffers, HeaderWrong, LimitsOutside, DeskOutside, DrivenCountsDiffer, NotDeltaTwo, StateOutside}
 use Rattle.refusals.specs.declared.Report.{Report}
 use Rattle.refusals.specs.declared.Outcome.{Outcome}
 use Rattle.refusals.specs.declared.Outcome.the-variants.{Accepted, Refused}
@@ -15,7 +15,7 @@ whole n = record { 0 = n; 1 = 0 }
 abbrev at : ℕ → ℕ → Report
 at n word = record { 0 = n; 1 = word }
 
--- the place is the number of the faulty word for 3 to 11 and 21, that of the faulty byte for 19, and 0 otherwise
+-- the place is the number of the faulty word for 3 to 11 and 21, that of the faulty byte for 19, and 0 otherwise; 6 of a state past the last has none
 abbrev pub reportOf : Refusal → Report
 reportOf NoWord = whole 1
 reportOf TooManyWords = whole 2
@@ -44,6 +44,8 @@ reportOf HeaderWrong = whole 24
 reportOf LimitsOutside = whole 25
 reportOf DeskOutside = whole 26
 reportOf DrivenCountsDiffer = whole 27
+reportOf NotDeltaTwo = whole 28
+reportOf StateOutside = whole 6
 
 abbrev pub numberOf : Refusal → ℕ
 numberOf r = reportOf r .0

@@ -30,6 +30,8 @@ pub enum Refusal {
     LimitsOutside,
     DeskOutside,
     DrivenCountsDiffer,
+    NotDeltaTwo,
+    StateOutside,
 }
 
 // A step that has nothing to say when it is accepted.
@@ -72,6 +74,8 @@ pub fn report_of(r: Refusal) -> Report
         Refusal::LimitsOutside => Report(25, 0),
         Refusal::DeskOutside => Report(26, 0),
         Refusal::DrivenCountsDiffer => Report(27, 0),
+        Refusal::NotDeltaTwo => Report(28, 0),
+        Refusal::StateOutside => Report(6, 0),
     }
 }
 

@@ -27,6 +27,10 @@ pub fn inputs() -> Vec<Input> {
     tables.extend([5_460, 5_461].into_iter().flat_map(|k| [8, 10].map(|kind| over_next(kind, k))));
     tables.extend([16_380, 16_381].map(|n| [chain_of_next(n), vec![Word::new(9, n, n - 1).bits()]].concat()));
     tables.extend([20, 510, 511].into_iter().flat_map(|k| [8, 9, 10, 11].map(|kind| over_next(kind, k))));
+    // as many states as can be numbered, and more
+    tables.extend([8_191, 8_192].map(chain_of_next));
+    tables.extend([8, 10].map(|kind| [chain_of_next(8_191), vec![Word::new(kind, 8_191, 8_190).bits()]].concat()));
+    tables.extend([16_380, 16_381].map(chain_of_ands));
     tables.extend(constant_forms().into_iter().map(|(_, words)| words));
     // just inside Delta-2, and just outside it by an X
     let sides = ["GF p1 & FG p2", "GF p1 | FG p2", "GF(p1 | X p2) & (p1 U G p2)"];

@@ -64,7 +64,7 @@ pub fn with_text(numbers: &mut Numbers, limits: Limits, table: Vec<u32>, text: V
     let (start, driven) = (start(numbers, samples.len()), driven(numbers, words(&table)));
     let (others, other_start, other_driven) = recording_like(numbers, &samples, start, driven);
     let sample = sample(numbers, &table, &samples, driven);
-    Input {
+    let input = Input {
         text_table: room(numbers, steps::text_words(&text, limits).map_or(20, |words| 1 + words.len())),
         text,
         limits,
@@ -88,8 +88,38 @@ pub fn with_text(numbers: &mut Numbers, limits: Limits, table: Vec<u32>, text: V
         other_driven,
         sample,
         after: room(numbers, after_length(&table, sample, driven)),
+        states: 0,
+        moved: 0,
+        state: 0,
         table,
-    }
+    };
+    with_state(numbers, input)
+}
+
+/// The input with a state's number round the last one, and rooms for the states and for its move.
+fn with_state(numbers: &mut Numbers, input: Input) -> Input {
+    let states = states_length(&input.table);
+    let state = match numbers.below(16) {
+        0 | 1 => 0,
+        2 => 1,
+        3 => states + 1,
+        4 => states.saturating_mul(2),
+        5 if numbers.once_in(4) => numbers.next() as usize,
+        5..=9 => states,
+        _ => numbers.below(states + 1),
+    };
+    let moved = move_length(&input.table, state, input.sample, input.driven);
+    Input { states: room(numbers, states), moved: room(numbers, moved), state, ..input }
+}
+
+/// How many states there are, and how many words a move has; 0 where it is refused by another check than 12, or can't be numbered.
+pub fn states_length(table: &[u32]) -> usize {
+    steps::state_words(table).map_or(0, |states| states.len())
+}
+
+pub fn move_length(table: &[u32], state: usize, sample: u32, driven: usize) -> usize {
+    let made = steps::move_words(table, state, sample, driven).ok().flatten();
+    made.map_or(0, |made| made.len())
 }
 
 /// The lengths of what each step writes of a table, its header counted; where nothing is written, there is none.

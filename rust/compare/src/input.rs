@@ -26,8 +26,12 @@ pub struct Input {
     pub after: usize,
     pub form_plain: usize,
     pub form: usize,
-    /// Of the step by a sample, which drives as many letters as the recording.
+    /// Of the step by a sample and of a move, which drives as many letters as the recording.
     pub sample: u32,
+    /// Of the automaton's states, of a move, and the state whose move it is.
+    pub states: usize,
+    pub moved: usize,
+    pub state: usize,
     /// Of the judge and the row call.
     pub samples: Vec<u32>,
     pub start: usize,
@@ -71,7 +75,7 @@ impl Input {
     /// What shrinking makes smaller.
     pub fn size(&self) -> (usize, usize, usize, u64) {
         let rooms = self.text_table + self.bytes + self.plain + self.normal + self.dialect + self.after;
-        let rooms = rooms + self.form_plain + self.form + self.scratch;
+        let rooms = rooms + self.states + self.moved + self.form_plain + self.form + self.scratch;
         let numbers =
             words(&self.table).iter().map(|&w| w as u64).sum::<u64>() + self.text.iter().map(|&b| b as u64).sum::<u64>();
         let rest = self.start as u64
@@ -81,6 +85,7 @@ impl Input {
             + self.limits.written.min(1 << 40) as u64
             + self.limits.until_like.min(1 << 40) as u64
             + self.desk.min(1 << 40) as u64
+            + self.state.min(1 << 40) as u64
             + self.tallies.iter().map(|tally| 1 + tally.judged as u64 + tally.held as u64).sum::<u64>()
             + self.limit.min(1 << 40) as u64
             + self.plain_only as u64;
@@ -103,7 +108,8 @@ impl fmt::Display for Input {
             "rooms: bytes {}, plain {}, normal {}, dialect {}, remainder {}, whole way {} and {}, scratch {}",
             self.bytes, self.plain, self.normal, self.dialect, self.after, self.form_plain, self.form, self.scratch
         )?;
-        writeln!(f, "sample {:08X}, {} letters driven", self.sample, self.driven)?;
+        writeln!(f, "rooms: states {}, move {}", self.states, self.moved)?;
+        writeln!(f, "state {}, sample {:08X}, {} letters driven", self.state, self.sample, self.driven)?;
         let (samples, start, driven) = (self.samples.len(), self.start, self.driven);
         writeln!(f, "recording of {samples} samples, loop start {start}, {driven} letters driven:{}", hex(&self.samples))?;
         let (samples, start, driven) = (self.others.len(), self.other_start, self.other_driven);

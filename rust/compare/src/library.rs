@@ -30,6 +30,14 @@ impl Stands {
     }
 }
 
+/// A state's number, a sample, and how many letters it drives.
+#[derive(Clone, Copy)]
+pub struct Move {
+    pub state: usize,
+    pub sample: u32,
+    pub driven: usize,
+}
+
 pub trait Library {
     fn check(&self, table: &[u32], plain: bool, limit: usize, place: &mut usize) -> u32;
     fn classify(&self, table: &[u32], bytes: &mut [u8], place: &mut usize) -> u32;
@@ -38,6 +46,8 @@ pub trait Library {
     fn normal(&self, table: &[u32], limits: Limits, result: &mut [u32], stands: &mut Stands, place: &mut usize) -> u32;
     fn dialect(&self, table: &[u32], result: &mut [u32], length: &mut usize, place: &mut usize) -> u32;
     fn after(&self, table: &[u32], sample: u32, driven: usize, result: &mut [u32], length: &mut usize, place: &mut usize) -> u32;
+    fn states(&self, table: &[u32], result: &mut [u32], states: &mut usize, place: &mut usize) -> u32;
+    fn moved(&self, table: &[u32], by: Move, result: &mut [u32], words: &mut usize, place: &mut usize) -> u32;
     fn form(
         &self,
         table: &[u32],
@@ -104,6 +114,15 @@ impl Library for Product {
     fn after(&self, table: &[u32], sample: u32, driven: usize, result: &mut [u32], length: &mut usize, place: &mut usize) -> u32 {
         let (t, r) = (table.as_ptr(), result.as_mut_ptr());
         unsafe { ffi::showrule_after(t, table.len(), sample, driven, r, result.len(), length, place) }
+    }
+
+    fn states(&self, table: &[u32], result: &mut [u32], states: &mut usize, place: &mut usize) -> u32 {
+        unsafe { ffi::showrule_states(table.as_ptr(), table.len(), result.as_mut_ptr(), result.len(), states, place) }
+    }
+
+    fn moved(&self, table: &[u32], by: Move, result: &mut [u32], words: &mut usize, place: &mut usize) -> u32 {
+        let (t, r) = (table.as_ptr(), result.as_mut_ptr());
+        unsafe { ffi::showrule_move(t, table.len(), by.state, by.sample, by.driven, r, result.len(), words, place) }
     }
 
     fn form(
@@ -261,6 +280,14 @@ impl Library for Reference {
 
     fn after(&self, table: &[u32], sample: u32, driven: usize, result: &mut [u32], length: &mut usize, place: &mut usize) -> u32 {
         length_told(steps::after(table, sample, driven, result), length, place)
+    }
+
+    fn states(&self, table: &[u32], result: &mut [u32], states: &mut usize, place: &mut usize) -> u32 {
+        length_told(steps::states(table, result), states, place)
+    }
+
+    fn moved(&self, table: &[u32], by: Move, result: &mut [u32], words: &mut usize, place: &mut usize) -> u32 {
+        length_told(steps::moved(table, by.state, by.sample, by.driven, result), words, place)
     }
 
     fn form(

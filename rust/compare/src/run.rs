@@ -1,6 +1,6 @@
 //! Runs every step of a library on an input, and says where two libraries differ.
 use crate::input::Input;
-use crate::library::{Lent, Library, Stands};
+use crate::library::{Lent, Library, Move, Stands};
 use reference::dialect::convert;
 use reference::edges::headed;
 use reference::forest::{Forest, Tree};
@@ -10,7 +10,7 @@ use reference::listing::bits;
 use reference::recording::Recording;
 use reference::steps::check as checked;
 use reference::text::{show, shown_bytes};
-use reference::word::MOST_WORDS;
+use reference::word::{Word, MOST_WORDS};
 use showrule::Tally;
 use std::collections::HashMap;
 use std::fmt;
@@ -74,7 +74,7 @@ macro_rules! both {
 }
 
 /// Every step of both libraries; then what has to be so of a library by itself.
-const ALL: [Compared; 23] = [
+const ALL: [Compared; 27] = [
     both!(|library: &dyn Library, input: &Input| check(library, input, "check", input.plain_only, input.limit)),
     both!(|library, input| check(library, input, "check, written", false, 64)),
     both!(|library, input| check(library, input, "check, plain", true, 130)),
@@ -84,6 +84,8 @@ const ALL: [Compared; 23] = [
     both!(normal),
     both!(dialect),
     both!(|library, input: &Input| after(library, input, "step by a sample", input.sample)),
+    both!(states),
+    both!(|library, input: &Input| moved(library, input, "move", input.sample)),
     both!(form),
     both!(|library, input: &Input| judge(library, input, "judge", input.recording())),
     both!(|library, input: &Input| row(library, input, "row", input.recording())),
@@ -94,12 +96,17 @@ const ALL: [Compared; 23] = [
     |product, _, input| (conversion(product, input), so(CONVERSION, &CONVERTED)),
     |_, reference, input| (conversion(reference, input), so(CONVERSION, &CONVERTED)),
     |product, _, input| (following(product, input), so(FOLLOWING, &[1])),
-    // the step by a sample, the judge, the row call and the comparison over samples that differ above the driven bits alone answer and leave what they did
+    |product, _, input| (watching(product, input), so(WATCHING, &WATCHED)),
+    // the step by a sample, a move, the judge, the row call and the comparison over samples that differ above the driven bits alone answer and leave what they did
     |product, _, input| redriven(input, |recording| judge(product, input, REDRIVEN[0], recording)),
     |product, _, input| redriven(input, |recording| row(product, input, REDRIVEN[1], recording)),
     |product, _, input| redriven(input, |recording| recordings(product, input, REDRIVEN[2], recording)),
     |product, _, input| {
         let [other, own] = [input.redriven_sample(), input.sample].map(|sample| after(product, input, REDRIVEN[3], sample));
+        (other, own)
+    },
+    |product, _, input| {
+        let [other, own] = [input.redriven_sample(), input.sample].map(|sample| moved(product, input, REDRIVEN[4], sample));
         (other, own)
     },
 ];
@@ -161,6 +168,22 @@ fn after(library: &dyn Library, input: &Input, step: &'static str, sample: u32) 
     let number = library.after(&table, sample, input.driven, result.slice(), &mut made, &mut place);
     let memory = held(&result).into_iter().chain(table.iter().map(|&word| word.into())).collect();
     Seen { step, number, lent: vec![made as u64, place as u64], memory }
+}
+
+fn states(library: &dyn Library, input: &Input) -> Seen {
+    let mut result = words(input.states);
+    let (mut made, mut place) = (BEFORE, BEFORE);
+    let number = library.states(&input.table, result.slice(), &mut made, &mut place);
+    Seen { step: "states", number, lent: vec![made as u64, place as u64], memory: held(&result) }
+}
+
+fn moved(library: &dyn Library, input: &Input, step: &'static str, sample: u32) -> Seen {
+    let mut result = words(input.moved);
+    let (mut made, mut place) = (BEFORE, BEFORE);
+    let by = Move { state: input.state, sample, driven: input.driven };
+    let number = library.moved(&input.table, by, result.slice(), &mut made, &mut place);
+    let step = if input.state == 0 && step == "move" { "start" } else { step };
+    Seen { step, number, lent: vec![made as u64, place as u64], memory: held(&result) }
 }
 
 fn form(library: &dyn Library, input: &Input) -> Seen {
@@ -311,6 +334,67 @@ fn following(library: &dyn Library, input: &Input) -> Seen {
     so(FOLLOWING, &[told.into()])
 }
 
+/// N14, tried by the library's own judge: the automaton accepts the recording exactly if the table holds at moment 0, as far as its states
+/// and moves tell; a state leads to itself and to earlier ones alone, and on any path there is at most one change between accepting and
+/// other states.
+fn watching(library: &dyn Library, input: &Input) -> Seen {
+    let (table, recording) = (&input.table, input.recording());
+    let mut result = vec![0; MOST_WORDS];
+    let (mut made, mut place) = (0, 0);
+    let number = library.states(table, &mut result, &mut made, &mut place);
+    let states: Vec<Word> = result[..made].iter().map(|&bits| Word::of(bits)).collect();
+    let mut scratch = vec![0; words_of(table).len() * recording.len().div_ceil(64)];
+    let (mut from, mut long) = (0, 0);
+    let short = number == 0 && (states.len() + 1) * recording.len() < 300;
+    if !short || library.row(table, recording, &mut scratch, &mut from, &mut long, &mut place) != 0 {
+        return so(WATCHING, &WATCHED);
+    }
+    let mut written = |state: usize, sample: u32| {
+        let by = Move { state, sample, driven: input.driven };
+        library.moved(table, by, &mut result, &mut made, &mut place);
+        result[..made].iter().map(|&bits| Word::of(bits)).collect::<Vec<Word>>()
+    };
+    let (mut accepts, mut changes): (Vec<Vec<bool>>, Vec<usize>) = (vec![vec![]], vec![0]);
+    let mut once = true;
+    for (state, word) in (1..).zip(&states) {
+        let moves: Vec<Vec<Word>> = recording.samples.iter().map(|&sample| written(state, sample)).collect();
+        let followers = moves.iter().flatten().filter(|word| word.kind == 3).map(|word| word.right);
+        once = moves.iter().all(|written| !written.is_empty()) && followers.clone().all(|other| (1..=state).contains(&other));
+        if !once {
+            break;
+        }
+        let others = followers.filter(|&other| other < state);
+        let change = |other: usize| changes[other] + usize::from(states[other - 1].kind != word.kind);
+        changes.push(others.map(change).max().unwrap_or(0));
+        // a run may stay in an accepting state for ever: each turn settles one moment more, if there is one to settle
+        accepts.push(vec![word.kind == 1; recording.len()]);
+        for _ in 0..=recording.len() {
+            let at = |i: usize| value(&moves[i], |other| accepts[other][recording.after(i)]);
+            accepts[state] = (0..recording.len()).map(at).collect();
+        }
+    }
+    once = once && changes.iter().all(|&changes| changes <= 1);
+    let accepted = once && value(&written(0, 0), |state| accepts[state][0]);
+    so(WATCHING, &[once, accepted == (scratch[from] & 1 == 1)].map(u64::from))
+}
+
+/// The value of the last word of a move, by the values of states; false where the move was refused.
+fn value(written: &[Word], state: impl Fn(usize) -> bool) -> bool {
+    let mut values: Vec<bool> = Vec::new();
+    for word in written {
+        values.push(match word.kind {
+            1 | 2 => word.kind == 2,
+            3 => state(word.right),
+            5 => values[word.left - 1] && values[word.right - 1],
+            _ => values[word.left - 1] || values[word.right - 1],
+        });
+    }
+    values.last().copied().unwrap_or(false)
+}
+
+const WATCHING: &str = "the automaton changes once at most, and accepts where the table holds";
+const WATCHED: [u64; 2] = [1, 1];
+
 const FOLLOWING: &str = "what remains holds from the next moment on if the table held";
 
 fn converted(library: &dyn Library, table: &[u32]) -> Option<Vec<u32>> {
@@ -343,11 +427,12 @@ fn redriven(input: &Input, seen: impl Fn(Recording) -> Seen) -> (Seen, Seen) {
     (seen(Recording { samples: &samples, ..input.recording() }), seen(input.recording()))
 }
 
-const REDRIVEN: [&str; 4] = [
+const REDRIVEN: [&str; 5] = [
     "judge, other bits above the driven ones",
     "row, other bits above the driven ones",
     "recordings, other bits above the driven ones",
     "step by a sample, other bits above the driven ones",
+    "move, other bits above the driven ones",
 ];
 
 /// A written table printed as text, and that text read: whether it is printed as the reference prints it, whether the table comes back

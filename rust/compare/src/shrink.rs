@@ -1,5 +1,5 @@
 //! Makes an input smaller as long as it still differs. The table keeps the header of its words where it can.
-use crate::generate::{after_length, lengths, Lengths};
+use crate::generate::{after_length, lengths, move_length, states_length, Lengths};
 use crate::input::Input;
 use reference::edges::headed;
 use reference::header::words;
@@ -17,8 +17,8 @@ pub fn smallest(mut input: Input, differs: impl Fn(&Input) -> bool) -> Input {
         }
         let right = repaired.table == input.table;
         let smaller = || changes(&input).into_iter().map(|change| changed(&input, right, &change));
-        // a fault may show only where a result just fills its slice
-        let smaller = smaller().chain(smaller().map(fitted));
+        // a fault may show only where a result just fills its slice, or in the rule's own state
+        let smaller = smaller().chain(smaller().map(fitted)).chain(smaller().map(at_last_state));
         match smaller.filter(|smaller| smaller.size() < input.size()).find(&differs) {
             Some(smaller) => input = smaller,
             None => return input,
@@ -51,17 +51,27 @@ fn changed(input: &Input, right: bool, change: &Change) -> Input {
 fn fitted(input: Input) -> Input {
     let Lengths { plain, normal, dialect, form } = lengths(&input.table, input.limits);
     let after = after_length(&input.table, input.sample, input.driven);
-    Input { plain, normal, dialect, after, form_plain: plain, form, ..input }
+    let states = states_length(&input.table);
+    let moved = move_length(&input.table, input.state, input.sample, input.driven);
+    Input { plain, normal, dialect, after, states, moved, form_plain: plain, form, ..input }
 }
 
-/// Rooms and limits.
-const SIZES: [fn(&mut Input) -> &mut usize; 12] = [
+/// The same, with the last state, which is the rule's own where it has one.
+fn at_last_state(input: Input) -> Input {
+    fitted(Input { state: states_length(&input.table), ..input })
+}
+
+/// Rooms, limits and the number of a state.
+const SIZES: [fn(&mut Input) -> &mut usize; 15] = [
     |i| &mut i.text_table,
     |i| &mut i.bytes,
     |i| &mut i.plain,
     |i| &mut i.normal,
     |i| &mut i.dialect,
     |i| &mut i.after,
+    |i| &mut i.states,
+    |i| &mut i.moved,
+    |i| &mut i.state,
     |i| &mut i.form_plain,
     |i| &mut i.form,
     |i| &mut i.scratch,
@@ -163,6 +173,7 @@ fn changes(input: &Input) -> Vec<Change> {
     with(Box::new(|i| i.desk = 0));
     with(Box::new(|i| i.desk = i.desk.saturating_sub(1)));
     with(Box::new(|i| i.desk = i.desk.min(i.tallies.len())));
+    with(Box::new(|i| i.state = i.state.min(states_length(&i.table) + 1)));
     for k in 0..input.tallies.len() {
         with(Box::new(move |i| i.tallies[k] = Tally { judged: 0, held: 0 }));
         with(Box::new(move |i| i.tallies[k].held = 0));

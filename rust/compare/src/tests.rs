@@ -2,7 +2,7 @@
 use crate::fixed;
 use crate::generate;
 use crate::input::Input;
-use crate::library::{length_told, Lent, Library, Reference, Stands};
+use crate::library::{length_told, Lent, Library, Move, Reference, Stands};
 use crate::numbers::Numbers;
 use crate::run::compare;
 use crate::smallest_difference;
@@ -72,6 +72,12 @@ enum Fault {
     NextKept,
     WordItselfDropped,
     RemainderNotFolded,
+    OneStateEach,
+    PiFirst,
+    ClassUnasked,
+    MoveFolded,
+    LastStateRefused,
+    SampleBeforeState,
 }
 
 impl Faulty {
@@ -133,6 +139,53 @@ impl Faulty {
         let folded = fold(&mut forest, made);
         Some(list(&forest, folded))
     }
+}
+
+impl Faulty {
+    /// What the fault makes of a state's move, where that is something else: the words of the move, and those of all states.
+    fn other_move(&self, by: Move, kind: u32, made: &[u32], states: &[u32]) -> Option<Vec<Word>> {
+        let mut forest = Forest::new();
+        let root = *forest.of_words(made).last().expect("a word");
+        // both states of a word that has two, as an or
+        let both = |forest: &mut Forest, state: usize| {
+            let same = |other: &usize| states[other - 1] & 0x3FFF == states[state - 1] & 0x3FFF;
+            let trees: Vec<Tree> = (1..=states.len()).filter(same).map(|n| forest.grow(Node::Letter(n))).collect();
+            trees.into_iter().reduce(|sigma, pi| forest.grow(Node::Or(sigma, pi))).expect("the state itself")
+        };
+        if self.fault == Fault::MoveFolded {
+            let folded = fold(&mut forest, root);
+            return Some(list(&forest, folded));
+        }
+        let mut other: Vec<(Tree, Tree)> = Vec::new();
+        for tree in needed(&forest, root) {
+            let of = |operand: Tree| other.iter().find(|(tree, _)| *tree == operand).expect("an operand").1;
+            let made = match (self.fault, forest.node(tree)) {
+                // of the states of a word the Pi one stands first, in the start
+                (Fault::PiFirst, Node::Or(a, b)) if by.state == 0 => match (forest.node(a), forest.node(b)) {
+                    (Node::Letter(n), Node::Letter(_)) if both(&mut forest, n) == tree => forest.grow(Node::Or(b, a)),
+                    _ => forest.grow(Node::Or(of(a), of(b))),
+                },
+                // X leads to every state of its operand, whatever its own class
+                (Fault::ClassUnasked, Node::Letter(n)) if kind == 7 => both(&mut forest, n),
+                (_, node) => forest.grow(node.over(of)),
+            };
+            other.push((tree, made));
+        }
+        let made = other.last().expect("the root").1;
+        (made != root).then(|| list(&forest, made))
+    }
+}
+
+/// A table without its header, as a step that writes one leaves it.
+fn write_without_header(made: Vec<Word>, result: &mut [u32], length: &mut usize) -> u32 {
+    *length = 0;
+    if made.len() > result.len().min(MOST_WORDS) {
+        result.fill(0);
+        return 12;
+    }
+    *length = made.len();
+    result.iter_mut().zip(made).for_each(|(place, word)| *place = word.bits());
+    0
 }
 
 impl Library for Faulty {
@@ -259,6 +312,42 @@ impl Library for Faulty {
         }
     }
 
+    fn states(&self, table: &[u32], result: &mut [u32], states: &mut usize, place: &mut usize) -> u32 {
+        let before = result.to_vec();
+        let number = self.right.states(table, result, states, place);
+        if self.fault != Fault::OneStateEach || number != 0 {
+            return number;
+        }
+        let mut made: Vec<Word> = result[..*states].iter().map(|&bits| Word::of(bits)).collect();
+        made.dedup_by_key(|state| state.right);
+        result.copy_from_slice(&before);
+        write_without_header(made, result, states)
+    }
+
+    fn moved(&self, table: &[u32], by: Move, result: &mut [u32], length: &mut usize, place: &mut usize) -> u32 {
+        let before = result.to_vec();
+        let number = self.right.moved(table, by, result, length, place);
+        let mut states = vec![0; MOST_WORDS];
+        let (mut count, mut ignored) = (0, 0);
+        self.right.states(table, &mut states, &mut count, &mut ignored);
+        states.truncate(count);
+        match self.fault {
+            Fault::LastStateRefused if number == 0 && by.state > 0 && by.state == count => {
+                result.copy_from_slice(&before);
+                *length = 0;
+                6
+            }
+            Fault::SampleBeforeState if number == 6 && *place == 0 && by.driven > 32 => 22,
+            Fault::PiFirst | Fault::ClassUnasked | Fault::MoveFolded if number == 0 => {
+                let kind = by.state.checked_sub(1).map_or(0, |n| table[(states[n] & 0x3FFF) as usize] >> 28);
+                let Some(made) = self.other_move(by, kind, &result[..*length], &states) else { return number };
+                result.copy_from_slice(&before);
+                write_without_header(made, result, length)
+            }
+            _ => number,
+        }
+    }
+
     fn form(
         &self,
         table: &[u32],
@@ -365,7 +454,7 @@ fn found(fault: Fault) -> Input {
     smallest_difference(&faulty, input).0
 }
 
-const FAULTS: [Fault; 43] = [
+const FAULTS: [Fault; 49] = [
     Fault::RefusalUntouched,
     Fault::WordPastTheEnd,
     Fault::PlaceOneLow,
@@ -409,6 +498,12 @@ const FAULTS: [Fault; 43] = [
     Fault::NextKept,
     Fault::WordItselfDropped,
     Fault::RemainderNotFolded,
+    Fault::OneStateEach,
+    Fault::PiFirst,
+    Fault::ClassUnasked,
+    Fault::MoveFolded,
+    Fault::LastStateRefused,
+    Fault::SampleBeforeState,
 ];
 
 /// The most words of the smallest table that shows a fault, its header counted.

@@ -24,11 +24,12 @@ const EACH_WORD: u32 = 2;
 const UNUSED: u32 = 3;
 const HEADER: u32 = 4;
 const UNTIL_LIKE: u32 = 5;
-const RECORDING: u32 = 6;
-const DRIVEN: u32 = 7;
-const SCRATCH: u32 = 8;
-const DESK: u32 = 9;
-const TALLY: u32 = 10;
+const STATE: u32 = 6;
+const RECORDING: u32 = 7;
+const DRIVEN: u32 = 8;
+const SCRATCH: u32 = 9;
+const DESK: u32 = 10;
+const TALLY: u32 = 11;
 
 impl Faults {
     fn note(&mut self, applies: bool, rank: Rank, number: u32) {
@@ -88,6 +89,12 @@ impl Faults {
         if let Some(&place) = until_like(words).get(limit) {
             self.note(true, (UNTIL_LIKE, place, 0), 11);
         }
+        self
+    }
+
+    /// Check 6 of a state's number, at place 0.
+    pub fn state(&mut self, states: usize, state: usize) -> &mut Faults {
+        self.note(state > states, (STATE, 0, 0), 6);
         self
     }
 

@@ -5,6 +5,7 @@
 //! `steps` has every step as a desk calls it, slices and all; the other modules say what the steps are made of.
 
 pub mod after;
+pub mod automaton;
 pub mod checks;
 pub mod class;
 pub mod dialect;

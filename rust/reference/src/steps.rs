@@ -1,6 +1,7 @@
 //! Every step as a desk calls it: the reply, and what each lent slice holds afterwards, refused calls included. Every table, handed in or
 //! made, has its header in front. The steps that make a written, a plain or a normal form take the limits of the house.
 use crate::after::after as remainders;
+use crate::automaton::{Automaton, State};
 use crate::checks::{fits, until_like, Faults, Refusal};
 use crate::class::{Class, Classes};
 use crate::dialect::convert;
@@ -14,6 +15,7 @@ use crate::plain::Plain;
 use crate::recording::{Recording, Truth};
 use crate::typed;
 use crate::word::{Word, MOST_WORDS};
+use std::collections::HashMap;
 use std::ops::Range;
 
 /// Judged and held, of one desk.
@@ -124,13 +126,76 @@ pub fn after_words(table: &[u32], sample: u32, driven: usize) -> Result<Vec<Word
     Faults::default().table(table, true, MOST_WORDS).driven_count(driven).driven(words(table), driven).first()?;
     let mut forest = Forest::new();
     let trees = forest.of_words(words(table));
-    let holds = |letter: usize| {
-        assert!((1..=driven).contains(&letter), "letter {letter} is not driven");
-        sample >> (letter - 1) & 1 == 1
-    };
-    let remaining = remainders(&mut forest, &trees, holds)[trees.len() - 1];
+    let remaining = remainders(&mut forest, &trees, holding(sample, driven))[trees.len() - 1];
     let folded = fold(&mut forest, remaining);
     Ok(list(&forest, folded))
+}
+
+/// Whether a letter holds by a sample. It has to be driven: the bits of others are no reading.
+fn holding(sample: u32, driven: usize) -> impl Fn(usize) -> bool {
+    move |letter| {
+        assert!((1..=driven).contains(&letter), "letter {letter} is not driven");
+        sample >> (letter - 1) & 1 == 1
+    }
+}
+
+/// The trees of a plain Delta-2 table's words, and the rule's automaton (document 02, N14): the checks of a table, then 28.
+fn automaton(table: &[u32]) -> Result<(Forest, Vec<Tree>, Automaton), Refusal> {
+    check(table, true, MOST_WORDS)?;
+    if !is_delta_2(words(table)) {
+        return Err(Refusal { number: 28, place: 0 });
+    }
+    let mut forest = Forest::new();
+    let trees = forest.of_words(words(table));
+    let automaton = Automaton::of(&forest, &trees);
+    Ok((forest, trees, automaton))
+}
+
+/// A word for each state of the rule's automaton, by every check but 12: kind 1 if it is accepting, else 0; left the class's bit number;
+/// right the table word.
+pub fn state_words(table: &[u32]) -> Result<Vec<Word>, Refusal> {
+    let (_, trees, automaton) = automaton(table)?;
+    let numbers: HashMap<Tree, usize> = trees.into_iter().zip(1..).collect();
+    let word = |state: &State| Word::new(state.accepting().into(), state.bit(), numbers[&state.tree]);
+    Ok(automaton.states().iter().map(word).collect())
+}
+
+/// The words of a state's move on a sample, or of the start where the state's number is 0; none where there are more states than a word can
+/// number. By every check but 12: 6 of the state's number, then 22 and 21.
+pub fn move_words(table: &[u32], state: usize, sample: u32, driven: usize) -> Result<Option<Vec<Word>>, Refusal> {
+    let (mut forest, _, automaton) = automaton(table)?;
+    let states = automaton.states().len();
+    Faults::default().state(states, state).driven_count(driven).driven(words(table), driven).first()?;
+    if states > MOST_WORDS {
+        return Ok(None);
+    }
+    let made = match state {
+        0 => automaton.start(&mut forest),
+        _ => automaton.moves(&mut forest, holding(sample, driven))[state - 1],
+    };
+    Ok(Some(list(&forest, made)))
+}
+
+/// Writes words without a header to the front of a slice, which counts for 16,383 words at most: check 12.
+fn write_without_header(words: Option<Vec<Word>>, result: &mut [u32]) -> Result<usize, Refusal> {
+    let Some(words) = words.filter(|words| words.len() <= result.len().min(MOST_WORDS)) else {
+        result.fill(0);
+        return Err(Refusal { number: 12, place: 0 });
+    };
+    for (place, word) in result.iter_mut().zip(&words) {
+        *place = word.bits();
+    }
+    Ok(words.len())
+}
+
+/// The states of a rule's automaton (document 02, N14). More than 16,383 fit no slice.
+pub fn states(table: &[u32], result: &mut [u32]) -> Result<usize, Refusal> {
+    write_without_header(Some(state_words(table)?), result)
+}
+
+/// The move of a state on a sample, the states being counted from 1; 0 is for the start.
+pub fn moved(table: &[u32], state: usize, sample: u32, driven: usize, result: &mut [u32]) -> Result<usize, Refusal> {
+    write_without_header(move_words(table, state, sample, driven)?, result)
 }
 
 /// Writes a table, header and words, to the front of a slice: check 12. The length counts the header.

@@ -1,12 +1,13 @@
 //! Document 02's sentences about texts (N1), driven letters (N3), the dialect without W and M (N4), the header (N5), the limits that a
-//! house sets (N6), the order of the parts (N7), folding (N8), the tallies (N9), two recordings (N10), rules already in the form (N11) and
-//! following a show (N12), held to the reference itself.
+//! house sets (N6), the order of the parts (N7), folding (N8), the tallies (N9), two recordings (N10), rules already in the form (N11),
+//! following a show (N12) and watching automata (N14), held to the reference itself.
 use reference::checks::Refusal;
-use reference::edges::{alternating, chain_of, chain_of_next, headed, over_next};
+use reference::edges::{alternating, chain_of, chain_of_ands, chain_of_next, headed, over_next};
 use reference::limits::Limits;
 use reference::recording::Recording;
 use reference::steps::{
-    after, check, classify, compare, dialect, form, judge, normal, plain, plain_words, rewritten_words, row, text, Form, Tally,
+    after, check, classify, compare, dialect, form, judge, moved, normal, plain, plain_words, rewritten_words, row, states, text,
+    Form, Tally,
 };
 use reference::word::Word;
 
@@ -560,4 +561,152 @@ fn samples_are_checked_as_recordings_are() {
     // each word of U over X stays, and has two more
     assert_eq!(remaining(&over_next(8, 5_460), 0, 1, 16_383).map(|words| words.len()), Ok(16_382));
     assert_eq!(remaining(&over_next(8, 5_461), 0, 1, 20_000), Err((12, 0)));
+}
+
+/// N14: the words that a call writes, which has no header, or its refusal's number and place, with so much room.
+fn written(call: impl Fn(&mut [u32]) -> Result<usize, Refusal>, room: usize) -> Result<Vec<u32>, (u32, usize)> {
+    let mut result = vec![7; room];
+    let made = call(&mut result);
+    match made {
+        Ok(words) => assert!(result[words..].iter().all(|&word| word == 7)),
+        Err(Refusal { number: 12, .. }) => assert!(result.iter().all(|&word| word == 0)),
+        Err(_) => assert!(result.iter().all(|&word| word == 7)),
+    }
+    made.map(|words| result[..words].to_vec()).map_err(|Refusal { number, place }| (number, place))
+}
+
+fn states_of(words: &[u32], room: usize) -> Result<Vec<u32>, (u32, usize)> {
+    written(|result| states(&headed(words), result), room)
+}
+
+fn move_of(words: &[u32], state: usize, sample: u32, driven: usize, room: usize) -> Result<Vec<u32>, (u32, usize)> {
+    written(|result| moved(&headed(words), state, sample, driven, result), room)
+}
+
+/// The words of a typed rule's plain form.
+fn plain_of(typed: &str) -> Vec<u32> {
+    plain_words(&read(typed, 65).expect("a rule"), Limits::DESK).map(bits).expect("a plain form")
+}
+
+const NO: u32 = 0x1000_0000;
+const YES: u32 = 0x2000_0000;
+
+/// The words of a state, of its number in a move, and of and and or.
+fn state(class: u32, word: u32) -> u32 {
+    (u32::from(class == 2 || class == 5) << 28) + (class << 14) + word
+}
+
+fn numbered(state: u32) -> u32 {
+    0x3000_0000 + state
+}
+
+fn both(a: u32, b: u32) -> u32 {
+    0x5000_0000 + (a << 14) + b
+}
+
+fn either(a: u32, b: u32) -> u32 {
+    0x6000_0000 + (a << 14) + b
+}
+
+#[test]
+fn states_are_proper_words_with_their_smallest_classes() {
+    let (p1, p2) = (0x3000_0001, 0x3000_0002);
+    // a letter has two, and X of a letter; constants, and and or have none
+    assert_eq!(states_of(&[p1], 2), Ok(vec![0x0000_4001, 0x1000_8001]));
+    assert_eq!(states_of(&[p1, 0x7000_0001], 4), Ok([(1, 1), (2, 1), (1, 2), (2, 2)].map(|(c, w)| state(c, w)).to_vec()));
+    assert_eq!(states_of(&[YES], 0), Ok(vec![]));
+    assert_eq!(states_of(&[p1, p2, both(1, 2), either(3, 1)], 9).map(|states| states.len()), Ok(4));
+    // U and M have a Sigma class, W and R a Pi class
+    for (kind, class) in [(8, 1), (9, 2), (10, 2), (11, 1)] {
+        assert_eq!(states_of(&[p1, (kind << 28) + 0x4001], 3), Ok(vec![state(1, 1), state(2, 1), state(class, 2)]));
+    }
+    // G F p1 is of Pi-2 and F G p1 of Sigma-2, and X of their or is in neither; X of F or G is in both
+    assert_eq!(states_of(&plain_of("GFp1"), 9).map(|states| states[3]), Ok(state(5, 5)));
+    assert_eq!(states_of(&plain_of("FGp1"), 9).map(|states| states[3]), Ok(state(4, 5)));
+    assert_eq!(states_of(&plain_of("X(GFp1 | FGp1)"), 20), Err((28, 0)));
+    assert_eq!(states_of(&plain_of("X(Fp1 | Gp1)"), 6).map(|states| states[4..].to_vec()), Ok(vec![state(4, 7), state(5, 7)]));
+}
+
+#[test]
+fn moves_of_whenever_the_cue_is_given() {
+    // false, not p1, true, p2, true U p2, 2 or 5, false R 6
+    let always = plain_of("G(p1 -> Fp2)");
+    let states = [(1, 2), (2, 2), (1, 4), (2, 4), (1, 5), (5, 7)].map(|(class, word)| state(class, word));
+    assert_eq!(states_of(&always, 6), Ok(states.to_vec()));
+    assert_eq!(move_of(&always, 0, 0, 2, 1), Ok(vec![numbered(6)]));
+    assert_eq!([1, 2, 3, 4].map(|state| move_of(&always, state, 1, 2, 1)), [NO, NO, NO, NO].map(|word| Ok(vec![word])));
+    assert_eq!([1, 2, 3, 4].map(|state| move_of(&always, state, 2, 2, 1)), [YES, YES, YES, YES].map(|word| Ok(vec![word])));
+    // p2' or (true' and the state itself), p2 by its Sigma-1 state alone
+    let waits = [NO, YES, numbered(5), both(2, 3), either(1, 4)];
+    assert_eq!(move_of(&always, 5, 1, 2, 5), Ok(waits.to_vec()));
+    // (2 or 5)' and (false' or the state itself): not p1 is the or of two moves
+    let cue = [NO, either(1, 1), YES, numbered(5), both(3, 4), either(1, 5), either(2, 6), numbered(6), either(1, 8), both(7, 9)];
+    assert_eq!(move_of(&always, 6, 1, 2, 10), Ok(cue.to_vec()));
+    assert_eq!(move_of(&always, 6, 1, 2, 9), Err((12, 0)));
+}
+
+#[test]
+fn sigma_stands_left_of_pi_within_the_class_of_the_state() {
+    let p1 = 0x3000_0001;
+    let start = |words: &[u32]| move_of(words, 0, 0, 32, 99);
+    assert_eq!(start(&[p1]), Ok(vec![numbered(1), numbered(2), either(1, 2)]));
+    assert_eq!(start(&[YES]), Ok(vec![YES]));
+    assert_eq!(start(&[YES, p1, both(2, 1)]), Ok(vec![numbered(1), numbered(2), either(1, 2), YES, both(3, 4)]));
+    // X p1 leads by Sigma-1 to the Sigma-1 state of p1, and by Pi-1 to the other
+    let next = [p1, 0x7000_0001];
+    assert_eq!([3, 4].map(|state| move_of(&next, state, 0, 1, 1)), [1, 2].map(|state| Ok(vec![numbered(state)])));
+    // X(F p1 | G p1) leads by either class to the states of F p1 and of G p1
+    let split = plain_of("X(Fp1 | Gp1)");
+    assert_eq!(
+        [5, 6].map(|state| move_of(&split, state, 0, 1, 3)),
+        [3, 4].map(|_| Ok(vec![numbered(3), numbered(4), either(1, 2)]))
+    );
+    // by Sigma-2 X p1 stands as the or of both its states, which lead to one state each
+    let stays = plain_of("FG Xp1");
+    assert_eq!(states_of(&stays, 9).map(|states| states.len()), Ok(6));
+    let again = [numbered(2), NO, numbered(5), either(2, 3), both(1, 4)];
+    assert_eq!(move_of(&stays, 5, 0, 1, 9), Ok(again.to_vec()));
+    let until = plain_of("(Xp1 U Gp2)");
+    let moved = move_of(&until, states_of(&until, 99).expect("in Delta-2").len(), 1, 2, 99).expect("a move");
+    assert!(moved.windows(3).any(|words| words == [numbered(1), numbered(2), words[2]] && words[2] >> 28 == 6), "{moved:08X?}");
+}
+
+#[test]
+fn refusals_of_automata_in_their_order() {
+    let (p1, outside) = (0x3000_0001, plain_of("FGFp1"));
+    assert_eq!(told(states(&[0x0000_0001, p1], &mut [])), (24, 0));
+    assert_eq!(states_of(&[p1, 0xC000_0001], 0), Err((4, 2)));
+    assert_eq!(states_of(&outside, 0), Err((28, 0)));
+    // 28, then 6 at place 0, then 22, then 21, then 12
+    assert_eq!(move_of(&outside, 99, 0, 33, 0), Err((28, 0)));
+    let next = [p1, 0x7000_0001];
+    assert_eq!([5, usize::MAX].map(|state| move_of(&next, state, 0, 33, 0)), [Err((6, 0)), Err((6, 0))]);
+    assert_eq!([0, 4].map(|state| move_of(&next, state, 0, 33, 0)), [Err((22, 0)), Err((22, 0))]);
+    assert_eq!([0, 4].map(|state| move_of(&next, state, 0, 0, 0)), [Err((21, 1)), Err((21, 1))]);
+    assert_eq!([0, 4].map(|state| move_of(&next, state, 0, 1, 0)), [Err((12, 0)), Err((12, 0))]);
+    assert_eq!(move_of(&[YES], 1, 0, 0, 9), Err((6, 0)));
+    // bits above the driven ones are never looked at
+    assert_eq!(move_of(&[p1], 1, 0xFFFF_FFFE, 1, 1), Ok(vec![NO]));
+}
+
+#[test]
+fn over_16_383_states_are_too_many_in_either_call() {
+    let next = chain_of_next(8_191);
+    assert_eq!(states_of(&next, 16_382).map(|states| states.len()), Ok(16_382));
+    assert_eq!(move_of(&next, 16_382, 0, 1, 1), Ok(vec![numbered(16_380)]));
+    let most = [next.clone(), vec![Word::new(8, 8_191, 8_190).bits()]].concat();
+    assert_eq!([16_383, 16_382].map(|room| states_of(&most, room).map(|states| states.len())), [Ok(16_383), Err((12, 0))]);
+    assert_eq!(move_of(&most, 0, 0, 1, 1), Ok(vec![numbered(16_383)]));
+    for words in [chain_of_next(8_192), chain_of_next(16_383)] {
+        assert_eq!(states_of(&words, 40_000), Err((12, 0)));
+        assert_eq!(
+            [0, 1, 2 * words.len()].map(|state| move_of(&words, state, 0, 1, 9)),
+            [Err((12, 0)), Err((12, 0)), Err((12, 0))]
+        );
+        assert_eq!(move_of(&words, 2 * words.len() + 1, 0, 1, 9), Err((6, 0)));
+    }
+    // a start of 16,383 words, and of one more
+    let lengths = [16_380, 16_381].map(|ands| move_of(&chain_of_ands(ands), 0, 0, 1, 20_000).map(|words| words.len()));
+    assert_eq!(lengths, [Ok(16_383), Err((12, 0))]);
+    assert_eq!(move_of(&over_next(8, 5_460), 5_464, 0, 1, 20_000).map(|words| words.len()), Ok(16_381));
 }

@@ -62,6 +62,27 @@ extern "C" {
         place: *mut usize,
     ) -> u32;
 
+    pub fn showrule_states(
+        table: *const u32,
+        length: usize,
+        result: *mut u32,
+        room: usize,
+        states: *mut usize,
+        place: *mut usize,
+    ) -> u32;
+
+    pub fn showrule_move(
+        table: *const u32,
+        length: usize,
+        state: usize,
+        sample: u32,
+        driven: usize,
+        result: *mut u32,
+        room: usize,
+        words: *mut usize,
+        place: *mut usize,
+    ) -> u32;
+
     pub fn showrule_form(
         table: *const u32,
         length: usize,

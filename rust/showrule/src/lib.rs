@@ -59,12 +59,14 @@ mod following;
 mod limits;
 mod refusal;
 mod text;
+mod watching;
 
 pub use following::{after, Following};
 pub use limits::Limits;
 use refusal::Call;
 pub use refusal::{Refusal, Side};
 pub use text::{from_text, to_text, NotPrinted, NotRead, Rule};
+pub use watching::{moved, start, states, State};
 
 /// The most words that a table can have, beside its header: a field has 14 bits.
 pub const MOST_WORDS: usize = 16_383;
@@ -236,7 +238,7 @@ pub fn normal_form<'a>(source: &'a mut [u32], limits: Limits, result: &'a mut [u
 /// The table of a plain table's conversion to the dialect without W and M, the front part of `result`: a W b becomes b R (a or b), and
 /// a M b becomes b U (a and b); a table that has neither is renumbered only. What stands past it stays. It takes up to 16,383 words, and
 /// n words become at most 2 n + 2, beside the header. Refused as 12, every word of the slice is 0; refused otherwise, it is as it was. A
-/// table of over 512 words takes some 460 KB of stack.
+/// table of over 512 words takes some 500 KB of stack.
 ///
 /// ```
 /// // p1 W p2 is p2 R (p1 or p2)

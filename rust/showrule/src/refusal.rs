@@ -129,6 +129,12 @@ pub enum Refusal {
         first: usize,
         second: usize,
     },
+    /// No state has this number: 6, at place 0.
+    StateOutside {
+        state: usize,
+    },
+    /// The last word's class lacks Delta-2.
+    NotDelta2,
     /// A number that this crate does not know.
     Other {
         number: u32,
@@ -150,6 +156,7 @@ pub(crate) struct Call<'a> {
     pub desks: usize,
     pub desk: usize,
     pub other_driven: usize,
+    pub state: usize,
     pub tally: Tally,
     pub of_plain_form: bool,
 }
@@ -177,6 +184,8 @@ impl Call<'_> {
             3 => Refusal::KindZero { place },
             4 => Refusal::NotPlain { place, kind },
             5 => Refusal::OperandZero { place, side: if two_sided && left == 0 { Side::Left } else { Side::Right } },
+            // a table that is refused by 6 has a word of that number
+            6 if place == 0 => Refusal::StateOutside { state: self.state },
             6 if two_sided && left as usize >= place => Refusal::OperandNotEarlier { place, side: Side::Left, operand: left },
             6 => Refusal::OperandNotEarlier { place, side: Side::Right, operand: right },
             7 => Refusal::LetterOutOfRange { place, letter: right },
@@ -200,6 +209,7 @@ impl Call<'_> {
             25 => Refusal::LimitsOutside { limits: self.limits },
             26 => Refusal::DeskOutside { desk: self.desk, desks: self.desks },
             27 => Refusal::DrivenCountsDiffer { first: self.other_driven, second: self.driven },
+            28 => Refusal::NotDelta2,
             _ => Refusal::Other { number, place },
         }
     }
@@ -214,7 +224,7 @@ impl Refusal {
             Refusal::KindZero { .. } => 3,
             Refusal::NotPlain { .. } => 4,
             Refusal::OperandZero { .. } => 5,
-            Refusal::OperandNotEarlier { .. } => 6,
+            Refusal::OperandNotEarlier { .. } | Refusal::StateOutside { .. } => 6,
             Refusal::LetterOutOfRange { .. } => 7,
             Refusal::FieldNotZero { .. } => 8,
             Refusal::Repeated { .. } => 9,
@@ -235,11 +245,12 @@ impl Refusal {
             Refusal::LimitsOutside { .. } => 25,
             Refusal::DeskOutside { .. } => 26,
             Refusal::DrivenCountsDiffer { .. } => 27,
+            Refusal::NotDelta2 => 28,
             Refusal::Other { number, .. } => number,
         }
     }
 
-    /// The number of the faulty word for 3 to 11 and 21, that of a byte of the text for 19, and 0 otherwise.
+    /// The number of the faulty word for 3 to 11 (0 for 6 of a state) and 21, that of a byte of the text for 19, and 0 otherwise.
     pub fn place(&self) -> usize {
         match *self {
             Refusal::KindZero { place }
@@ -368,6 +379,10 @@ impl fmt::Display for Refusal {
                     f,
                     "the first recording drives {first} of the letters, and the second {second}: compare those that both drive"
                 )
+            }
+            Refusal::StateOutside { state } => write!(f, "there is no state {state}: its number is past the last"),
+            Refusal::NotDelta2 => {
+                write!(f, "the rule's class lacks Delta-2, so that it has no automaton: make the normal form first")
             }
             Refusal::Other { number, place } => write!(f, "refused {number} at {place}"),
         }

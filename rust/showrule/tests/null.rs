@@ -28,6 +28,10 @@ fn empty_slices() {
         assert_eq!((showrule_dialect(letter.as_ptr(), 2, null_mut(), 0, &mut words, &mut place), words, place), (12, 0, 0));
         assert_eq!((showrule_after(null(), 0, 0, 1, null_mut(), 0, &mut words, &mut place), words, place), (1, 0, 0));
         assert_eq!((showrule_after(letter.as_ptr(), 2, 0, 1, null_mut(), 0, &mut words, &mut place), words, place), (12, 0, 0));
+        assert_eq!((showrule_states(null(), 0, null_mut(), 0, &mut words, &mut place), words, place), (1, 0, 0));
+        assert_eq!((showrule_states(letter.as_ptr(), 2, null_mut(), 0, &mut words, &mut place), words, place), (12, 0, 0));
+        assert_eq!((showrule_move(null(), 0, 1, 0, 1, null_mut(), 0, &mut words, &mut place), words, place), (1, 0, 0));
+        assert_eq!((showrule_move(letter.as_ptr(), 2, 1, 0, 1, null_mut(), 0, &mut words, &mut place), words, place), (12, 0, 0));
         in_source = true;
         let (mut plain, mut form) = ([0u32; 7], |table: &[u32], plain: *mut u32, room: usize| {
             let (table, length) = (table.as_ptr(), table.len());

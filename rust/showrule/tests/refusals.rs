@@ -1,7 +1,7 @@
 //! Every refusal of a table, a form, a recording and a sample: its number, its place and its sentence.
 use showrule::{
-    after, check, classify, compare, dialect, form, from_text, judge, normal_form, plain_form, row, Following, Limits, Recording,
-    Refusal, Rule, Tally,
+    after, check, classify, compare, dialect, form, from_text, judge, moved, normal_form, plain_form, row, start, states,
+    Following, Limits, Recording, Refusal, Rule, State, Tally,
 };
 
 fn is<T: std::fmt::Debug>(answer: Result<T, Refusal>, number: u32, place: usize, sentence: &str) {
@@ -250,6 +250,34 @@ fn remainders() {
     assert_eq!(result, [UNTIL[0], UNTIL[1], UNTIL[2], UNTIL[3], 7]);
     is(after(&UNTIL, 1, 2, &mut result[..3]), 12, 0, "the result does not fit the slice of 3 that was lent for it");
     assert_eq!(result, [0, 0, 0, UNTIL[3], 7]);
+}
+
+#[test]
+fn automata() {
+    let mut result = [7; 7];
+    let words: Vec<State> = states(&UNTIL, &mut result).unwrap().iter().map(|&word| State::of(word)).collect();
+    let state = |class, word| State { accepting: class == 2, class, word };
+    assert_eq!((words, &result[5..]), (vec![state(1, 1), state(2, 1), state(1, 2), state(2, 2), state(1, 3)], &[7, 7][..]));
+    assert_eq!(start(&UNTIL, &mut result).unwrap(), [0x3000_0005]);
+    // p2 does not hold, and p1 does: false or (true and the state itself)
+    let step = [0x1000_0000, 0x2000_0000, 0x3000_0005, 0x5000_8003, 0x6000_4004];
+    assert_eq!(moved(&UNTIL, 5, 0xFFFF_FFFD, 2, &mut result).unwrap(), step);
+    assert_eq!(result[5..], [7, 7]);
+    is(moved(&UNTIL, 6, 1, 33, &mut result), 6, 0, "there is no state 6: its number is past the last");
+    is(moved(&UNTIL, 5, 1, 33, &mut result), 22, 0, "33 letters are said to be driven, and there are 32");
+    is(moved(&UNTIL, 0, 1, 1, &mut result), 21, 2, "word 2 names letter 2, and letters 1 to 1 are driven");
+    let outside = "the rule's class lacks Delta-2, so that it has no automaton: make the normal form first";
+    is(states(&AGAIN, &mut result), 28, 0, outside);
+    is(start(&AGAIN, &mut result), 28, 0, outside);
+    is(moved(&AGAIN, 99, 1, 33, &mut result), 28, 0, outside);
+    let later = [0x001E_8003, 0x3000_0001, 0x3000_0002, 0x8001_0002];
+    is(moved(&later, 99, 1, 33, &mut result), 6, 3, "word 3 uses word 4 (left field), and an operand is an earlier word");
+    is(states(&ALWAYS, &mut result), 4, 2, "word 2 is of kind 14, which a plain table does not have: make the plain form first");
+    assert_eq!((&result[..5], &result[5..]), (&step[..], &[7, 7][..]));
+    is(moved(&UNTIL, 5, 1, 2, &mut result[..4]), 12, 0, "the result does not fit the slice of 4 that was lent for it");
+    assert_eq!(result, [0, 0, 0, 0, 0x6000_4004, 7, 7]);
+    is(states(&UNTIL, &mut result[..4]), 12, 0, "the result does not fit the slice of 4 that was lent for it");
+    is(start(&UNTIL, &mut []), 12, 0, "the result does not fit the slice of 0 that was lent for it");
 }
 
 #[test]

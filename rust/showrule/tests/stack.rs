@@ -1,5 +1,6 @@
-//! A thread with 512 KB of stack is enough for every call but `dialect` and `after`, and one with 1 MB for those, as include/showrule.h says:
-//! the longest tables, and under the highest limits the deepest ones and ten until-like words.
+//! A thread with 512 KB of stack is enough for every call but `dialect`, `after` and `moved` on tables of over 512 words, one with 1 MB for
+//! those, and one with 2 MB for `moved` on over 4,096 words, as include/showrule.h says: the longest tables, and under the highest limits the
+//! deepest ones and ten until-like words.
 use showrule::*;
 
 fn on_small_stack(work: impl FnOnce() + Send + 'static) {
@@ -75,6 +76,39 @@ fn longest_remainders() {
         // up to 512 words need as little as the other calls
         let (table, mut result) = (chain(&[vec![7], vec![kind; 510]].concat()), vec![0; 16_385]);
         on_small_stack(move || assert_eq!(after(&table, 0, 1, &mut result).unwrap().len(), 1 + 512 + 1_020));
+    }
+}
+
+#[test]
+fn longest_automata() {
+    // two states a word, and one word more than can be numbered
+    for (nexts, length) in [(8_190, Ok(16_382)), (8_191, Err(Refusal::ResultTooShort { room: 16_384 }))] {
+        let (next, mut result) = (chain(&vec![7; nexts]), vec![0; 16_384]);
+        on_small_stack(move || assert_eq!(states(&next, &mut result).map(|states| states.len()), length));
+        let (next, mut result) = (chain(&vec![7; nexts]), vec![0; 16_384]);
+        on_stack(2_048, move || {
+            assert_eq!(moved(&next, 16_382, 0, 1, &mut result).map(|made| made.len()), length.map(|_| 1));
+        });
+    }
+    let (long, mut result) = (chain(&[7; 16_382]), vec![0; 9]);
+    on_stack(2_048, move || assert_eq!(moved(&long, 32_766, 0, 1, &mut result), Err(Refusal::ResultTooShort { room: 9 })));
+    let (ands, mut result) = (chain(&[5; 16_380]), vec![0; 16_383]);
+    on_stack(2_048, move || assert_eq!(start(&ands, &mut result).unwrap().len(), 16_383));
+    for kind in [8, 9, 10, 11] {
+        // as many states as can be numbered, of which the last moves to too many words
+        let (table, mut result) = (chain(&vec![kind; 16_381]), vec![0; 16_384]);
+        on_stack(2_048, move || {
+            assert_eq!(states(&table, &mut result).unwrap().len(), 16_383);
+            assert_eq!(moved(&table, 16_383, 0, 1, &mut result), Err(Refusal::ResultTooShort { room: 16_384 }));
+        });
+        // over X of a letter each word moves to three, beside the letter's state
+        for (size, words) in [(2_048, 5_460), (1_024, 4_094), (512, 510)] {
+            let (table, mut result) = (chain(&[vec![7], vec![kind; words]].concat()), vec![0; 16_384]);
+            on_stack(size, move || {
+                assert_eq!(moved(&table, words + 4, 0, 1, &mut result).unwrap().len(), 3 * words + 1);
+                assert_eq!(start(&table, &mut result).unwrap(), [0x3000_0000 + words as u32 + 4]);
+            });
+        }
     }
 }
 

@@ -22,6 +22,8 @@ pub enum Step {
     Dialect,
     Compare,
     After,
+    States,
+    Move,
 }
 
 #[derive(Clone)]
@@ -44,7 +46,8 @@ pub struct Case {
     pub samples: Samples,
     pub start: usize,
     pub driven: usize,
-    /// How many desks have a tally, the number of the desk that is named, and its tally; of a step by a sample `judged` is the sample.
+    /// How many desks have a tally, the number of the desk that is named, and its tally; of a step by a sample and of a
+    /// move `judged` is the sample, and of a move `desk` is the state's number.
     pub desks: usize,
     pub desk: usize,
     pub tally: Tally,
@@ -190,6 +193,16 @@ impl Case {
             Step::After => {
                 let mut result = vec![0xEEEE_EEEE; FORM_ROOM];
                 let made = steps::after(&table, self.tally.judged, self.driven, &mut result[..self.room]);
+                format!("{}, {}{}", answer(&made), made.unwrap_or(0), words(&result))
+            }
+            Step::States => {
+                let mut result = vec![0xEEEE_EEEE; FORM_ROOM];
+                let made = steps::states(&table, &mut result[..self.room]);
+                format!("{}, {}{}", answer(&made), made.unwrap_or(0), words(&result))
+            }
+            Step::Move => {
+                let mut result = vec![0xEEEE_EEEE; FORM_ROOM];
+                let made = steps::moved(&table, self.desk, self.tally.judged, self.driven, &mut result[..self.room]);
                 format!("{}, {}{}", answer(&made), made.unwrap_or(0), words(&result))
             }
             Step::Form => {

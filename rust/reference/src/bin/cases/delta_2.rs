@@ -10,7 +10,7 @@ use reference::steps::is_delta_2;
 use reference::word::Word;
 
 /// Rules of which the last word is of each kind, 1 to 11 in turn.
-const INSIDE: [&str; 22] = [
+pub const INSIDE: [&str; 22] = [
     "false",
     "true",
     "p1",
@@ -35,7 +35,7 @@ const INSIDE: [&str; 22] = [
     "(G p1 & F p2) M (p3 R p4)",
 ];
 
-const OUTSIDE: [&str; 16] = [
+pub const OUTSIDE: [&str; 16] = [
     "p2 & FGF p1",
     "(GF p1 & FG p2) & X(GF p1 & FG p2)",
     "FGF p1 | p2",

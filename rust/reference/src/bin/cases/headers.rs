@@ -27,6 +27,8 @@ pub fn cases() -> Vec<Case> {
             cases.push(case(&what("whole way"), Step::Form, room));
             cases.push(case(&what("dialect"), Step::Dialect, room));
             cases.push(case(&what("step by a sample"), Step::After, room));
+            cases.push(case(&what("states"), Step::States, room));
+            cases.push(case(&what("move"), Step::Move, room));
             cases.push(case(&what("judge"), Step::Judge, room));
             cases.push(case(&what("row"), Step::Row, room));
         }

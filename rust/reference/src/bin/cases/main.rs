@@ -3,6 +3,7 @@
 //!     cases FOLDER        as: cargo run --release --offline -p reference --bin cases ../crates/cases
 //!     cases FOLDER list   prints the label of each case, a line for each line of stdout
 mod after;
+mod automata;
 mod case;
 mod comparing;
 mod delta_2;
@@ -23,7 +24,7 @@ fn main() {
     let folder = Path::new(&folder);
     let forms = [forms::cases(), folding::cases(), delta_2::cases()].concat();
     let rules = [tables::cases(), headers::cases(), forms, judging::cases(), texts::cases(), dialect::cases()];
-    let cases: Vec<Case> = [rules.concat(), limits::cases(), comparing::cases(), after::cases()].concat();
+    let cases: Vec<Case> = [rules.concat(), limits::cases(), comparing::cases(), after::cases(), automata::cases()].concat();
     if env::args().nth(2).is_some() {
         cases.iter().for_each(|case| println!("{}", case.label));
         return;

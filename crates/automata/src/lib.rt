@@ -1,0 +1,1 @@
+// Alternating automata over samples, their runs and what they accept; no code.

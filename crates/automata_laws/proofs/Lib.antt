@@ -1,0 +1,12 @@
+-- Laws of the automaton of a formula.
+pub mod Classes
+pub mod Expansion
+pub mod Sound
+pub mod Occurring
+pub mod Once
+pub mod Closed
+pub mod MoveModels
+pub mod Complete
+pub mod Examples
+pub mod Promise
+pub mod Bytes

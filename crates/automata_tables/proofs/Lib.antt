@@ -1,0 +1,6 @@
+-- Laws of the automaton of a plain table as words.
+pub mod Numbers
+pub mod States
+pub mod Promise
+pub mod Bases
+pub mod Examples

@@ -1,0 +1,2 @@
+-- How the call for a move ends.
+pub mod Ends

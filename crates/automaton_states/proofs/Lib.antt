@@ -1,0 +1,2 @@
+-- How the call for the states ends.
+pub mod Ends

@@ -1,0 +1,2 @@
+-- The calls of a watching automaton as steps.
+pub mod Steps

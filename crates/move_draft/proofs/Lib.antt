@@ -1,0 +1,3 @@
+-- The laws of a move while its draft is filled.
+pub mod Moves
+pub mod Forms

@@ -1,0 +1,3 @@
+-- What the draft of a move is.
+pub mod Slots
+pub mod Filling

@@ -1,0 +1,3 @@
+-- A move numbered in rooms of a size.
+pub mod Roots
+pub mod Rooms

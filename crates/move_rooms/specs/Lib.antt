@@ -1,0 +1,2 @@
+-- What the table of a move is written with.
+pub mod Rooms

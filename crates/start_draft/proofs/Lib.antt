@@ -1,0 +1,2 @@
+-- The laws of the start while its draft is filled.
+pub mod Forms

@@ -1,0 +1,2 @@
+-- What the draft of the start is.
+pub mod Filling

@@ -1,0 +1,2 @@
+-- The slots of a word's states.
+pub mod Slots

@@ -1,0 +1,2 @@
+-- The states of a word.
+pub mod States
