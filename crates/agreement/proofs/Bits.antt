@@ -1,5 +1,5 @@
 -- Samples are alike exactly where every driven bit is the same; where they are not, there is a driven bit that differs.
-use Prim.Native.Nat.{ℕ, zero, suc, _≤_}
+use Prim.Native.Nat.{ℕ, zero, suc}
 use mathlib.Core.Path.{_≡_, refl, sym, subst}
 use mathlib.Core.Bool.{Bool, true, false, _&&_, Bool·beq}
 use mathlib.Core.Logic.{inl, inr}

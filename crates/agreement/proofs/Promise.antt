@@ -18,7 +18,7 @@ use Rattle.refusals.proofs.First.{first-passed, first-append-both}
 use Rattle.logic.specs.Formula.{Formula}
 use Rattle.logic.specs.Lasso.{Word, Lasso, letterIn, word, lassoOf}
 use Rattle.logic.specs.Semantics.{Holds}
-use Rattle.logic.specs.Driven.{Driven, Drives, Agree}
+use Rattle.logic.specs.Driven.{Drives, Agree}
 use Rattle.logic.proofs.Numbers.{lt-or-le}
 use Rattle.logic.proofs.Lasso.Period.{period, word-periodic, lasso-inside}
 use Rattle.logic.proofs.Lasso.Driven.{agree-holds}
@@ -28,9 +28,9 @@ use Rattle.agreement.specs.declared.answer.Comparison.{Comparison}
 use Rattle.agreement.specs.declared.answer.Comparison.the-variants.{Same, Differ}
 use Rattle.agreement.specs.declared.answer.Comparison.the-variants.{Refused as NotCompared}
 use Rattle.agreement.specs.Comparing.{countChecks, comparisonChecks, alike, differenceIn, window, compared, comparedBy, comparison}
-use Rattle.agreement.specs.Difference.{FirstDifference, Says}
+use Rattle.agreement.specs.Difference.{Says}
 use Rattle.agreement.specs.Telling.{TellsApart}
-use Rattle.agreement.proofs.Bits.{alike-bits, bits-alike, unlike-bit}
+use Rattle.agreement.proofs.Bits.{alike-bits, unlike-bit}
 use Rattle.agreement.proofs.Window.{for-ever}
 use Rattle.agreement.proofs.Telling.{told-apart}
 

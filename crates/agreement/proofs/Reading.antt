@@ -1,7 +1,7 @@
 -- A recording read position by position: the place of the next position, and what a comparison comes to, one position at a time.
-use Prim.Native.Nat.{ℕ, zero, suc, _+_, _-_, _%_, _≤_, _<_}
+use Prim.Native.Nat.{ℕ, suc, _+_, _-_, _%_, _≤_, _<_}
 use mathlib.Core.Path.{_≡_, refl, sym, ap, ap₂, _∙_}
-use mathlib.Core.Bool.{Bool, true, false, cond}
+use mathlib.Core.Bool.{true, false, cond}
 use mathlib.Core.List.{List}
 use native.Mathlib.Nat.{suc-mod, mod-eq-of-lt, mod-lt, mod-self}
 use native.Mathlib.Decide.{decLt}
@@ -9,9 +9,8 @@ use native.Mathlib.Omega.{arith}
 use lib.ListN.{length, getD}
 use lib.Dec.{ltb}
 use borrow.Author.Tests.{lt-ltb, le-ltb}
-use Rattle.logic.specs.Lasso.{Word, Lasso, place, word, lassoOf}
+use Rattle.logic.specs.Lasso.{Word, place, word, lassoOf}
 use Rattle.logic.proofs.Lasso.Period.{place-below, place-loop, lasso-inside}
-use Rattle.agreement.specs.declared.answer.Comparison.{Comparison}
 use Rattle.agreement.specs.declared.answer.Comparison.the-variants.{Same, Differ}
 use Rattle.agreement.specs.Comparing.{alike, differenceIn, window, compared}
 

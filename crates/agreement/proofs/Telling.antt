@@ -1,10 +1,9 @@
 -- Where two lassos differ, X as often as positions come before, and then a letter that differs, tells them apart.
 use Prim.Native.Nat.{ℕ, zero, suc, _+_}
-use mathlib.Core.Path.{_≡_, refl, sym, ap, subst, _∙_}
+use mathlib.Core.Path.{_≡_, refl, sym, subst, _∙_}
 use mathlib.Core.Bool.{Bool, true, false}
-use mathlib.Core.Logic.{_↔_, _⊎_, inl, inr, Iff·rfl, Iff·trans}
+use mathlib.Core.Logic.{_↔_, _⊎_, inl, inr, Iff·rfl}
 use native.Mathlib.Nat.{add-zero, zero-add, add-suc, suc-add}
-use native.Mathlib.Omega.{arith}
 use Rattle.logic.specs.Formula.{Formula, lit}
 use Rattle.logic.specs.Letters.{Letters}
 use Rattle.logic.specs.Lasso.{Word, Lasso, letterIn, word}

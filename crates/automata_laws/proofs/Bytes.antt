@@ -1,8 +1,8 @@
 -- The smallest classes of a formula by its class byte.
 use Prim.Native.Nat.{ℕ, _/_, _%_, _^_}
-use mathlib.Core.Path.{_≡_, refl, ap, ap₂, subst}
+use mathlib.Core.Path.{_≡_, refl, ap₂, subst}
 use mathlib.Core.Logic.{_↔_}
-use mathlib.Core.Bool.{Bool, false, not, _&&_, _||_}
+use mathlib.Core.Bool.{Bool, false, _||_}
 use mathlib.Core.List.{List, [], _∷_}
 use lib.Dec.{T, eqb, eqb→eq, eqb-refl}
 use Rattle.logic.specs.Bit.{bit}
@@ -11,7 +11,7 @@ use Rattle.logic.specs.Formula.{Formula}
 use Rattle.logic.specs.Hierarchy.{Class}
 use Rattle.logic.proofs.Hierarchy.ClassBit.{class-bit}
 use Rattle.logic.proofs.Tests.{T-same}
-use Rattle.automata_laws.specs.StateClass.{StateClass, classBit, inClass, below, inSome, isSmallest}
+use Rattle.automata_laws.specs.StateClass.{StateClass, classBit, inClass, inSome}
 use Rattle.automata_laws.proofs.Promise.{class-of-bit}
 
 -- a formula is in the class of a bit exactly where the byte has the bit
@@ -32,7 +32,3 @@ someBit c (Γ ∷ Γs) = bit c (classBit Γ) || someBit c Γs
 some-by-byte : (φ : Formula) (Γs : List StateClass) → inSome Γs φ ≡ someBit (classByte φ) Γs
 some-by-byte φ [] = refl
 some-by-byte φ (Γ ∷ Γs) = ap₂ _||_ (class-by-byte φ Γ) (some-by-byte φ Γs)
-
--- a smallest class by the byte: its bit is set, and none of those that lie below
-pub smallest-by-byte : (φ : Formula) (Γ : StateClass) → isSmallest φ Γ ≡ (bit (classByte φ) (classBit Γ) && not (someBit (classByte φ) (below Γ)))
-smallest-by-byte φ Γ = ap₂ _&&_ (class-by-byte φ Γ) (ap not (some-by-byte φ (below Γ)))

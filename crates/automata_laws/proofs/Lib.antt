@@ -1,6 +1,5 @@
 -- Laws of the automaton of a formula.
 pub mod Classes
-pub mod Expansion
 pub mod Sound
 pub mod Occurring
 pub mod Once

@@ -20,7 +20,7 @@ use Rattle.automata.proofs.Models.{any-model}
 use Rattle.automata_laws.specs.StateClass.{StateClass, inClass, within, isSmallest, smallestIn, smallestWithin}
 use Rattle.automata_laws.specs.FormulaAutomaton.{isProper, State, statesOf, combination, movedBy, moveOf}
 use Rattle.automata_laws.proofs.Classes.{Covers, covers-class, in-hereditary, smallest-in, smallest-within, no-neg, no-finally, no-globally, no-implies}
-use Rattle.automata_laws.proofs.Expansion.{until-cases, weak-cases, strong-cases, release-cases}
+use Rattle.logic.proofs.Expansion.{until-next, weak-next, strong-next, release-next}
 use Rattle.automata_laws.proofs.Occurring.{fixpoint-proper}
 
 -- a fixpoint is fulfilled by the values of its operands
@@ -159,8 +159,8 @@ module _ (r : Lasso) where
   move-model (un globally a) S Γ l t h c again = absurd (no-globally Γ a t)
   move-model (bin conj a b) S Γ l t h c again = conj-model a b (move-model a) (move-model b) conj S Γ l t c h
   move-model (bin disj a b) S Γ l t h c again = disj-model a b (move-model a) (move-model b) disj S Γ l t c h
-  move-model (bin until a b) S Γ l t h c again = until-model a b (move-model a) (move-model b) until S Γ l t c (until-cases h) (again tt)
-  move-model (bin weak a b) S Γ l t h c again = until-model a b (move-model a) (move-model b) weak S Γ l t c (weak-cases h) (again tt)
-  move-model (bin release a b) S Γ l t h c again = release-model a b (move-model a) (move-model b) release S Γ l t c (release-cases h) (again tt)
-  move-model (bin strong a b) S Γ l t h c again = release-model a b (move-model a) (move-model b) strong S Γ l t c (strong-cases h) (again tt)
+  move-model (bin until a b) S Γ l t h c again = until-model a b (move-model a) (move-model b) until S Γ l t c (until-next (Holds (word r) a) (Holds (word r) b) l .0 h) (again tt)
+  move-model (bin weak a b) S Γ l t h c again = until-model a b (move-model a) (move-model b) weak S Γ l t c (weak-next (Holds (word r) a) (Holds (word r) b) l .0 h) (again tt)
+  move-model (bin release a b) S Γ l t h c again = release-model a b (move-model a) (move-model b) release S Γ l t c (release-next (Holds (word r) a) (Holds (word r) b) l .0 h) (again tt)
+  move-model (bin strong a b) S Γ l t h c again = release-model a b (move-model a) (move-model b) strong S Γ l t c (strong-next (Holds (word r) a) (Holds (word r) b) l .0 h) (again tt)
   move-model (bin implies a b) S Γ l t h c again = absurd (no-implies Γ a b t)

@@ -19,7 +19,7 @@ use Rattle.automata.proofs.Models.{any-some}
 use Rattle.automata_laws.specs.StateClass.{StateClass, isPi, every, smallestIn, smallestWithin}
 use Rattle.automata_laws.specs.FormulaAutomaton.{isProper, State, statesOf, combination, movedBy, moveOf, formulaAutomaton}
 use Rattle.automata_laws.proofs.Classes.{least-sigma}
-use Rattle.automata_laws.proofs.Expansion.{until-now, until-later, weak-now, weak-later, strong-now, strong-later, release-now, release-later}
+use Rattle.logic.proofs.Expansion.{until-next, weak-next, strong-next, release-next}
 
 -- an operand moved by a class
 abbrev moved : StateClass → Formula → ℕ → Positive State
@@ -136,8 +136,8 @@ module _ (φ : Formula) (r : Lasso) (N : ℕ → Subset State) (E : ℕ → Stat
     until-node Γ =
         least-holds until tt (Holds (word r) a) Γ
         (λ l n. elim (until-sound until l Γ _ (targets l (node until Γ)) (successors l (node until Γ) n)) [
-          | inl h ↦ inl (until-now h)
-          | inr x ↦ inr (x .0, x .1, until-later (x .0))
+          | inl h ↦ inl (until-next (Holds (word r) a) (Holds (word r) b) l .1 (inl h))
+          | inr x ↦ inr (x .0, x .1, λ u. until-next (Holds (word r) a) (Holds (word r) b) l .1 (inr (x .0, u)))
         ])
 
     weak-node : (Γ : StateClass) (l : ℕ) → T (N l (node weak Γ)) → Holds (word r) (bin weak a b) l
@@ -145,8 +145,8 @@ module _ (φ : Formula) (r : Lasso) (N : ℕ → Subset State) (E : ℕ → Stat
     weak-node Γ =
         greatest-holds weak (Holds (word r) a) Γ (λ l f. inl f)
         (λ l n. elim (until-sound weak l Γ _ (targets l (node weak Γ)) (successors l (node weak Γ) n)) [
-          | inl h ↦ inl (weak-now h)
-          | inr x ↦ inr (x .0, x .1, weak-later (x .0))
+          | inl h ↦ inl (weak-next (Holds (word r) a) (Holds (word r) b) l .1 (inl h))
+          | inr x ↦ inr (x .0, x .1, λ u. weak-next (Holds (word r) a) (Holds (word r) b) l .1 (inr (x .0, u)))
         ])
 
     strong-node : (Γ : StateClass) (l : ℕ) → T (N l (node strong Γ)) → Holds (word r) (bin strong a b) l
@@ -155,7 +155,10 @@ module _ (φ : Formula) (r : Lasso) (N : ℕ → Subset State) (E : ℕ → Stat
         least-holds strong tt (Holds (word r) b) Γ
         (λ l n.
         let x = release-sound strong l Γ _ (targets l (node strong Γ)) (successors l (node strong Γ) n) in
-        elim (x .1) [ inl h ↦ inl (strong-now h (x .0)) | inr e ↦ inr (x .0, e, strong-later (x .0)) ])
+        elim (x .1) [
+          | inl h ↦ inl (strong-next (Holds (word r) a) (Holds (word r) b) l .1 (x .0, inl h))
+          | inr e ↦ inr (x .0, e, λ u. strong-next (Holds (word r) a) (Holds (word r) b) l .1 (x .0, inr u))
+        ])
 
     release-node : (Γ : StateClass) (l : ℕ) → T (N l (node release Γ)) → Holds (word r) (bin release a b) l
     unfolding moveOf
@@ -163,30 +166,35 @@ module _ (φ : Formula) (r : Lasso) (N : ℕ → Subset State) (E : ℕ → Stat
         greatest-holds release (Holds (word r) b) Γ (λ l f. inl f)
         (λ l n.
         let x = release-sound release l Γ _ (targets l (node release Γ)) (successors l (node release Γ) n) in
-        elim (x .1) [ inl h ↦ inl (release-now h (x .0)) | inr e ↦ inr (x .0, e, release-later (x .0)) ])
+        elim (x .1) [
+          | inl h ↦ inl (release-next (Holds (word r) a) (Holds (word r) b) l .1 (x .0, inl h))
+          | inr e ↦ inr (x .0, e, λ u. release-next (Holds (word r) a) (Holds (word r) b) l .1 (x .0, inr u))
+        ])
 
     -- a model of their moves
     until-move : MoveSound (bin until a b)
     unfolding moveOf
     until-move l Γ S w m =
-        elim (until-sound until l Γ S w m) [ inl h ↦ until-now h | inr x ↦ until-later (x .0) (until-node Γ (suc l) (w (node until Γ) (x .1))) ]
+        until-next (Holds (word r) a) (Holds (word r) b) l .1
+        (⊎-map (λ h. h) (λ x. (x .0, until-node Γ (suc l) (w (node until Γ) (x .1)))) (until-sound until l Γ S w m))
 
     weak-move : MoveSound (bin weak a b)
     unfolding moveOf
     weak-move l Γ S w m =
-        elim (until-sound weak l Γ S w m) [ inl h ↦ weak-now h | inr x ↦ weak-later (x .0) (weak-node Γ (suc l) (w (node weak Γ) (x .1))) ]
+        weak-next (Holds (word r) a) (Holds (word r) b) l .1
+        (⊎-map (λ h. h) (λ x. (x .0, weak-node Γ (suc l) (w (node weak Γ) (x .1)))) (until-sound weak l Γ S w m))
 
     release-move : MoveSound (bin release a b)
     unfolding moveOf
     release-move l Γ S w m =
         let x = release-sound release l Γ S w m in
-        elim (x .1) [ inl h ↦ release-now h (x .0) | inr e ↦ release-later (x .0) (release-node Γ (suc l) (w (node release Γ) e)) ]
+        release-next (Holds (word r) a) (Holds (word r) b) l .1 (x .0, ⊎-map (λ h. h) (λ e. release-node Γ (suc l) (w (node release Γ) e)) (x .1))
 
     strong-move : MoveSound (bin strong a b)
     unfolding moveOf
     strong-move l Γ S w m =
         let x = release-sound strong l Γ S w m in
-        elim (x .1) [ inl h ↦ strong-now h (x .0) | inr e ↦ strong-later (x .0) (strong-node Γ (suc l) (w (node strong Γ) e)) ]
+        strong-next (Holds (word r) a) (Holds (word r) b) l .1 (x .0, ⊎-map (λ h. h) (λ e. strong-node Γ (suc l) (w (node strong Γ) e)) (x .1))
 
     conj-move : MoveSound (bin conj a b)
     unfolding moveOf

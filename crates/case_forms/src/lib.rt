@@ -1,6 +1,7 @@
 // The calls of a case that check a table or make one of it, on slices that held a pattern, and what comes back.
 use case_input::input;
 use case_input::input::Case;
+use case_output::made;
 use case_output::show;
 use case_output::sum;
 
@@ -21,8 +22,8 @@ pub fn classify(c: Case, table: &[u32]) {
             boundary::showrule_classify(table, &mut bytes[0..room], &mut place),
             place,
         );
+        sum::bytes(&bytes);
     }
-    sum::bytes(&bytes);
 }
 
 // The listed words are the bytes of the text.
@@ -43,10 +44,8 @@ pub fn text(c: Case, listed: &[u32]) {
             &mut words,
             &mut place,
         );
-        show::answer(number, place);
+        made::plain(number, place, words, &result);
     }
-    show::number(words);
-    sum::plain(&result);
 }
 
 pub fn plain(c: Case, table: &[u32]) {
@@ -63,18 +62,7 @@ pub fn plain(c: Case, table: &[u32]) {
             &mut words,
             &mut place,
         );
-        show::answer(number, place);
-    }
-    show::number(words);
-    sum::plain(&result);
-}
-
-// Which slice the form is in.
-fn stands(own: bool) {
-    if own {
-        show::text(b", source");
-    } else {
-        show::text(b", result");
+        made::plain(number, place, words, &result);
     }
 }
 
@@ -94,11 +82,9 @@ pub fn normal(c: Case, table: &[u32]) {
             &mut words,
             &mut place,
         );
-        show::answer(number, place);
+        made::form(number, place, words, own);
+        sum::form(&result);
     }
-    show::number(words);
-    stands(own);
-    sum::form(&result);
 }
 
 pub fn form(c: Case, table: &[u32]) {
@@ -120,12 +106,10 @@ pub fn form(c: Case, table: &[u32]) {
             &mut words,
             &mut place,
         );
-        show::answer(number, place);
+        made::form(number, place, words, own);
+        sum::plain(&plain);
+        sum::form(&result);
     }
-    show::number(words);
-    stands(own);
-    sum::plain(&plain);
-    sum::form(&result);
 }
 
 pub fn dialect(c: Case, table: &[u32]) {
@@ -140,10 +124,8 @@ pub fn dialect(c: Case, table: &[u32]) {
             &mut words,
             &mut place,
         );
-        show::answer(number, place);
+        made::words(number, place, words, &result);
     }
-    show::number(words);
-    sum::form(&result);
 }
 
 // The sample stands in place of a tally's judgements.
@@ -161,10 +143,8 @@ pub fn after(c: Case, table: &[u32]) {
             &mut words,
             &mut place,
         );
-        show::answer(number, place);
+        made::words(number, place, words, &result);
     }
-    show::number(words);
-    sum::form(&result);
 }
 
 pub fn states(c: Case, table: &[u32]) {
@@ -174,10 +154,8 @@ pub fn states(c: Case, table: &[u32]) {
     let room = c.room;
     if room <= 16400 {
         let number = boundary::showrule_states(table, &mut result[0..room], &mut words, &mut place);
-        show::answer(number, place);
+        made::words(number, place, words, &result);
     }
-    show::number(words);
-    sum::form(&result);
 }
 
 // The state's number stands in place of a desk's, and the sample in place of its tally's judgements.
@@ -196,8 +174,6 @@ pub fn moves(c: Case, table: &[u32]) {
             &mut words,
             &mut place,
         );
-        show::answer(number, place);
+        made::words(number, place, words, &result);
     }
-    show::number(words);
-    sum::form(&result);
 }

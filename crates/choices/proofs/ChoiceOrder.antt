@@ -3,8 +3,7 @@ use Prim.Native.Nat.{ℕ, zero, suc, _+_, _-_, _^_, _≤_, _<_}
 use native.Mathlib.Omega.{arith}
 use mathlib.Core.Path.{_≡_, refl, sym, ap, ap₂, subst, _∙_}
 use mathlib.Core.Bool.{false}
-use mathlib.Core.List.{List, [], _∷_, _++_, map, map-append, foldl, foldl-append, append-nil, append-assoc}
-use lib.ListN.{length}
+use mathlib.Core.List.{List, [], _∷_, _++_, map, map-append, foldl-append, append-nil, append-assoc}
 use lib.Count.{ones}
 use lib.Dec.{eqb}
 use Rattle.logic.specs.Formula.{Formula, const, disj}

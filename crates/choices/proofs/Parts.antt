@@ -1,7 +1,7 @@
 -- One part more: of a choice with another count, of one whose part is false, and of one that is joined.
 use Prim.Native.Nat.{ℕ, _^_, _≤_}
 use native.Mathlib.Omega.{arith}
-use mathlib.Core.Path.{_≡_, refl, sym, _∙_, subst}
+use mathlib.Core.Path.{_≡_, refl, sym, subst}
 use mathlib.Core.Bool.{true, false}
 use mathlib.Core.List.{List, [], _∷_}
 use lib.ListN.{length, getD}
@@ -15,12 +15,12 @@ use Rattle.draft.proofs.Drafts.{drafted-within}
 use Rattle.folding.proofs.Roots.{kind-constant, constant-kind}
 use Rattle.filling.specs.Filled.{Laid}
 use Rattle.placing.specs.State.{State, Numbered}
-use Rattle.parts.specs.Parts.{foldedPart, Ready, Numberless}
+use Rattle.parts.specs.Parts.{foldedPart}
 use Rattle.true_parts.proofs.Looks.{ready-again}
 use Rattle.sums.specs.declared.Sum.{Sum}
 use Rattle.sums.specs.declared.Sum.the-variants.{Nothing, Full, At}
 use Rattle.sums.specs.Summed.{Standing, Small, Summed, Grown}
-use Rattle.sums.proofs.Growth.{or-stands, or-false, join-full}
+use Rattle.sums.proofs.Growth.{or-false, join-full}
 use Rattle.choices.specs.Joining.{joined, chosenIn, Untrue, Joinable}
 
 pub grown-same : (g : Formula → Formula) {s : State} {a : Sum} → Numbered s → Small a → ((χ : Formula) → χ ≡ g χ) → Grown g s s a a

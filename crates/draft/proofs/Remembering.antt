@@ -1,21 +1,19 @@
 -- Numbers that are kept for slots: none at first, the same for a longer table and for a draft that begins alike, and one more for a slot that was placed.
-use Prim.Native.Nat.{ℕ, _≤_, _<_}
+use Prim.Native.Nat.{ℕ, _<_}
 use native.Mathlib.Omega.{arith}
 use mathlib.Core.Path.{_≡_, refl, subst}
 use mathlib.Core.Bool.{Bool, true, false}
-use mathlib.Core.Logic.{_⊎_, inl, inr}
 use mathlib.Core.List.{List}
 use lib.ListN.{length, getD, set, replicate}
 use lib.Seq.{getD-set-same, getD-set-other}
 use lib.Dec.{eqb}
 use borrow.Author.Tests.{eqb-true, eqb-false}
-use Rattle.logic.proofs.Numbers.{getD-zeros, lt-or-le}
+use Rattle.logic.proofs.Numbers.{getD-zeros}
 use Rattle.logic.specs.Formula.{Formula}
 use Rattle.numbering.specs.Held.{Held}
 use Rattle.numbering.proofs.Building.{Grows, held-grows}
 use Rattle.draft.specs.Drafted.{Drafted}
 use Rattle.draft.specs.Numberable.{Remembered}
-use Rattle.draft.proofs.Drafts.{drafted-below}
 
 pub remembered-none : (d : List ℕ) (n : ℕ) (t : List ℕ) → Remembered d (replicate n 0) t
 remembered-none d n t = record { held = λ i φ h g. absurd (omega (arith, g, getD-zeros n i)) }
@@ -34,12 +32,3 @@ remembered-set {d} {numbers} {t} i n l f r = record { held = λ j φ h p. go j �
     go j φ h p false e =
         let q : getD (set numbers i n) j 0 ≡ getD numbers j 0 = getD-set-other numbers i j n 0 (eqb-false j i e) in
         rw q (r .held j φ h (rw q at p))
-
--- a draft that is the same below slot k, where no slot from there on has a number
-pub remembered-below : {d e numbers t : List ℕ} (k : ℕ) → k ≤ length d → ((i : ℕ) → i < k → getD d i 0 ≡ getD e i 0)
-    → ((i : ℕ) → k ≤ i → getD numbers i 0 ≡ 0) → Remembered d numbers t → Remembered e numbers t
-remembered-below {d} {e} {numbers} {t} k l same none r = record { held = λ i φ h p. go i φ h p (lt-or-le i k) }
-  where
-    go : (i : ℕ) (φ : Formula) → Drafted e φ i → 0 < getD numbers i 0 → (i < k) ⊎ (k ≤ i) → Held t φ (getD numbers i 0)
-    go i φ h p (inl q) = r .held i φ (drafted-below e d k l same φ i q h) p
-    go i φ h p (inr q) = absurd (omega (arith, p, none i q))

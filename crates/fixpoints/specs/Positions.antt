@@ -1,7 +1,7 @@
 -- The bit of each until-like word in the number of a choice, and the positions that are kept of them.
 use Prim.Native.Nat.{ℕ, suc, _<_}
 use mathlib.Core.Path.{_≡_}
-use mathlib.Core.Bool.{Bool, true}
+use mathlib.Core.Bool.{true}
 use mathlib.Core.List.{List}
 use lib.ListN.{length, getD, take}
 use Rattle.logic.specs.NormalForm.{keep}

@@ -1,8 +1,8 @@
 -- A draft folded slot by slot: a slot over folded operands stands for the folded formula.
-use Prim.Native.Nat.{ℕ, zero, suc, _+_, _^_, _≤_, _<_}
+use Prim.Native.Nat.{ℕ, _+_, _^_, _≤_, _<_}
 use native.Mathlib.Nat.{eq-or-lt-of-le}
 use native.Mathlib.Omega.{arith}
-use mathlib.Core.Path.{_≡_, refl, sym, ap, ap₂, _∙_, subst}
+use mathlib.Core.Path.{_≡_, refl, ap₂, _∙_, subst}
 use mathlib.Core.Bool.{Bool, cond}
 use mathlib.Core.Logic.{_⊎_, inl, inr}
 use mathlib.Core.List.{List}
@@ -13,8 +13,8 @@ use Rattle.table.specs.Node.{Shape, none, constant, letter, unary, binary, shap
 use Rattle.table.proofs.Shapes.{shape-unary, shape-binary, shape-constant, shape-letter}
 use Rattle.slots.specs.Slot as slot
 use Rattle.slots.proofs.Fields.{kind-pack, left-pack, right-pack}
-use Rattle.draft.specs.Drafted.{SlotIs, Drafted}
-use Rattle.draft.proofs.Drafts.{drafted-set, slot-set, drafted-within}
+use Rattle.draft.specs.Drafted.{Drafted}
+use Rattle.draft.proofs.Drafts.{drafted-set, slot-set}
 use Rattle.fold_rules.specs.Rules.{leftRule, rightRule, constantly}
 use Rattle.folding.specs.Folded.{foldedOver, foldedSlot, Folded}
 use Rattle.folding.proofs.Roots.{slot-constantly}

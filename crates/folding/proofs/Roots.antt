@@ -1,10 +1,10 @@
 -- The kind of a slot that stands for a formula is that of the formula's operator; so it tells a constant.
-use Prim.Native.Nat.{ℕ, _^_, _≤_, _<_}
+use Prim.Native.Nat.{ℕ, _^_, _<_}
 use native.Mathlib.Omega.{arith}
 use mathlib.Core.Path.{_≡_, refl, sym, ap, _∙_}
 use mathlib.Core.Bool.{Bool, cond}
 use mathlib.Core.List.{List}
-use lib.ListN.{length, getD}
+use lib.ListN.{getD}
 use Rattle.logic.specs.Formula.{Formula, const, lit, un, bin}
 use Rattle.logic.specs.Folding.{Fold, byConstant}
 use Rattle.table.specs.Node.{Shape, constant, letter, unary, binary, shape, unaryKind, binaryKind}
@@ -12,7 +12,6 @@ use Rattle.table.proofs.Shapes.{shape-unary, shape-binary, shape-constant, shap
 use Rattle.slots.specs.Slot.{kind}
 use Rattle.slots.proofs.Fields.{kind-pack}
 use Rattle.draft.specs.Drafted.{Drafted}
-use Rattle.draft.proofs.Drafts.{drafted-within}
 use Rattle.fold_rules.specs.Rules.{constantly}
 
 -- the shape of a formula's operator

@@ -1,9 +1,8 @@
 // Folding a draft: each slot that stands for a formula stands for the folded formula afterwards, at its own place.
 use fold_rules::Fold;
 use slots::slot;
-ghost use Prim.Native.Nat.{_≤_, _^_};
 ghost use mathlib.Core.Path.{_≡_};
-ghost use lib.ListN.{length, getD};
+ghost use lib.ListN.{getD};
 ghost use Rattle.folding.specs.Folded.{foldedSlot, Foldable, Folded};
 
 // Slot i, or 0 where there is none: a slot that nothing leads to may hold anything.

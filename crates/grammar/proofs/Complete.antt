@@ -4,14 +4,13 @@ use native.Mathlib.Omega.{arith}
 use native.Mathlib.Nat.{not-suc-le-zero}
 use mathlib.Core.Path.{_≡_, refl, sym, ap, _∙_}
 use mathlib.Core.Bool.{Bool, true, false, cond}
-use mathlib.Core.List.{List, [], _∷_, _++_, append-assoc}
-use mathlib.Core.Option.{Option, none, some}
-use lib.Dec.{eqb, leb, ltb}
+use mathlib.Core.List.{List, [], _∷_, _++_}
+use mathlib.Core.Option.{none, some}
+use lib.Dec.{eqb, ltb}
 use borrow.Author.Tests.{le-leb, leb-true, leb-false}
-use Rattle.logic.specs.Formula.{Formula, Unary, Binary, const, lit, un, bin, next, neg, finally, globally, conj, disj, until, weak, release, strong, implies}
-use Rattle.logic.proofs.Numbers.{Each, in-range}
+use Rattle.logic.specs.Formula.{Formula, next, neg, finally, globally, conj, disj, until, weak, release, strong, implies}
 use Rattle.grammar.specs.Grammar.{Symbol, constant, letter, prefix, operator, open-bracket, close-bracket, decimal, spelling, Spelled, nothing, space, symbol, Rule, constant-rule, letter-rule, prefixed, bracketed, Reads}
-use Rattle.grammar.specs.Reader.{Open, waiting, bracket, joined, Config, operand, ended, stuck, settle, join, close, shift, Mark, blank, begins, begins-letter, unknown, markOf, State, inside, lettered, dead, going, alive, ofLetter, begin, isDigit, grown, step, run, start, accepted, final, readingOf}
+use Rattle.grammar.specs.Reader.{Open, waiting, bracket, joined, Config, operand, ended, stuck, settle, shift, Mark, blank, begins, begins-letter, unknown, markOf, State, inside, lettered, dead, alive, ofLetter, begin, step, run, accepted, final, readingOf}
 
 -- symbol by symbol
 abbrev pub shifts : Config → List Symbol → Config

@@ -1,7 +1,7 @@
 -- The examples of places where a text departs from the grammar: rows of one table, held by one computed test.
 use Prim.Native.Nat.{ℕ}
 use mathlib.Core.Path.{_≡_, refl}
-use mathlib.Core.Bool.{Bool, true, false, _&&_, cond}
+use mathlib.Core.Bool.{Bool, true, _&&_, cond}
 use mathlib.Core.List.{List, [], _∷_}
 use lib.Dec.{eqb}
 use Rattle.grammar.specs.Reader.{settle, markOf, step, run, readingOf, isNone, departureFrom, departureOf}

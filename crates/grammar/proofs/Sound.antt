@@ -4,13 +4,13 @@ use native.Mathlib.Omega.{arith}
 use mathlib.Core.Path.{_≡_, refl, sym, ap, ap₂, _∙_, subst}
 use mathlib.Core.Bool.{Bool, true, false, _&&_, cond}
 use mathlib.Core.List.{List, [], _∷_, _++_, append-assoc, append-nil}
-use mathlib.Core.Option.{Option, none, some}
-use lib.Dec.{eqb, leb, ltb, eqb→eq}
+use mathlib.Core.Option.{some}
+use lib.Dec.{eqb, leb, eqb→eq}
 use lib.Seq.{append-snoc}
 use borrow.Author.Tests.{leb-true, lt-ltb, le-ltb}
-use Rattle.logic.specs.Formula.{Formula, Unary, Binary, const, lit, un, bin, next, neg, finally, globally, conj, disj, until, weak, release, strong, implies}
+use Rattle.logic.specs.Formula.{Formula, Unary, Binary, next, neg, finally, globally, conj, disj, until, weak, release, strong, implies}
 use Rattle.grammar.specs.Grammar.{Symbol, constant, letter, prefix, operator, open-bracket, close-bracket, decimal, spelling, Spelled, nothing, space, symbol, Rule, constant-rule, letter-rule, prefixed, bracketed, Reads}
-use Rattle.grammar.specs.Reader.{Open, waiting, bracket, joined, Config, operand, ended, stuck, settle, join, close, shift, Mark, blank, begins, begins-letter, unknown, signs, firstByte, otherBytes, signOf, markOf, State, inside, lettered, dead, going, alive, ofLetter, beginLetter, begin, isDigit, grown, step, run, start, accepted, final, readingOf}
+use Rattle.grammar.specs.Reader.{Open, waiting, bracket, joined, Config, operand, ended, stuck, settle, join, close, shift, Mark, blank, begins, begins-letter, unknown, signs, firstByte, otherBytes, signOf, markOf, State, inside, lettered, dead, ofLetter, beginLetter, begin, grown, step, run, start, accepted, final, readingOf}
 use Rattle.grammar.proofs.Complete.{shifts, Proper, proper-append, stuck-shifts}
 
 -- the symbols that led to what is open

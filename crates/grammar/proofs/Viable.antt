@@ -5,15 +5,15 @@ use mathlib.Core.Path.{_≡_, refl, sym, ap, _∙_}
 use mathlib.Core.Logic.{_↔_, ⊎-elim}
 use mathlib.Core.Bool.{Bool, true, false, _&&_, cond, true≢false}
 use mathlib.Core.List.{List, [], _∷_, _++_}
-use mathlib.Core.Option.{Option, none, some}
+use mathlib.Core.Option.{none, some}
 use lib.ListN.{length, take}
 use lib.Dec.{eqb, leb}
 use borrow.Author.Tests.{eq-eqb}
-use Rattle.logic.specs.Formula.{Formula, Unary, Binary, const, lit, un, bin, conj}
+use Rattle.logic.specs.Formula.{Formula, Binary, const, lit, un, bin, conj}
 use Rattle.logic.proofs.Numbers.{lt-or-le}
-use Rattle.grammar.specs.Grammar.{Symbol, constant, letter, prefix, operator, open-bracket, close-bracket, Reads, Viable, Departs}
-use Rattle.grammar.specs.Reader.{Open, waiting, bracket, joined, Config, operand, ended, stuck, settle, join, close, shift, Mark, blank, begins, begins-letter, unknown, otherBytes, markOf, State, inside, lettered, dead, going, alive, ofLetter, beginLetter, begin, isDigit, grown, step, run, start, accepted, final, readingOf, departureFrom, departureOf}
-use Rattle.grammar.proofs.Complete.{complete, dead-run, dead-none}
+use Rattle.grammar.specs.Grammar.{Symbol, constant, letter, prefix, operator, open-bracket, close-bracket, Viable, Departs}
+use Rattle.grammar.specs.Reader.{Open, waiting, bracket, joined, Config, operand, ended, stuck, settle, join, close, shift, Mark, blank, begins, begins-letter, unknown, markOf, State, inside, lettered, dead, going, alive, ofLetter, beginLetter, begin, isDigit, grown, step, run, start, final, readingOf, departureFrom, departureOf}
+use Rattle.grammar.proofs.Complete.{complete, dead-none}
 use Rattle.grammar.proofs.Sound.{sound}
 
 pub run-append : (x : State) (bs cs : List ℕ) → run x (bs ++ cs) ≡ run (run x bs) cs

@@ -1,6 +1,5 @@
 -- The grammar of rules typed as text: document 02, N1, as a relation between bytes and formulas. No reader of it is spoken of here.
 use Prim.Native.Nat.{ℕ, suc, _+_, _/_, _%_, _≤_, _<_}
-use mathlib.Core.Path.{_≡_}
 use mathlib.Core.Bool.{Bool, true, false, cond}
 use mathlib.Core.List.{List, [], _∷_, _++_}
 use lib.Dec.{ltb}

@@ -1,7 +1,7 @@
 -- Demand 2: in every accepted call, for every word and every position, those of the endless repeat included, the bit of the
 -- word's row at the position's place is 1 if and only if the word's formula holds there by the definition over all later positions. A table is
 -- handed over with its header, and its words are those after it.
-use Prim.Native.Nat.{ℕ, zero, suc, _+_, _-_, _*_, _/_, _%_, _^_, _≤_, _<_}
+use Prim.Native.Nat.{ℕ, zero, suc, _+_, _-_, _*_, _/_, _%_, _≤_, _<_}
 use native.Mathlib.Nat.{add-zero, zero-add, eq-or-lt-of-le}
 use native.Mathlib.Numerals.{add-one}
 use mathlib.Core.Path.{_≡_, refl, sym, ap, subst, _∙_}
@@ -10,7 +10,7 @@ use mathlib.Core.Bool.{Bool, true, false, cond}
 use mathlib.Core.List.{List}
 use native.Mathlib.Decide.{decLt}
 use native.Mathlib.Omega.{arith}
-use lib.ListN.{length, getD, drop, List·getD-eq-default}
+use lib.ListN.{length, getD, List·getD-eq-default}
 use lib.Dec.{T}
 use Rattle.logic.specs.Formula.{Formula, const}
 use Rattle.logic.specs.Lasso.{Lasso, place, word}
@@ -35,7 +35,7 @@ use Rattle.tally.specs.declared.Desk.{Desk}
 use Rattle.operand_rows.specs.Operands.{rowNumber}
 use Rattle.row_filling.specs.Filling.{lassoOf, rowOf, rowsThen}
 use Rattle.judging.specs.Judging.{rowOutcome, judgeOutcome, replyBy, reply, scratchAfter, lastRow}
-use Rattle.judge_laws.specs.Answers.{said, holdsIn, Count, none, one-more, no-more, FirstFailing, Judges}
+use Rattle.judge_laws.specs.Answers.{said, holdsIn, Count, none, one-more, no-more, Judges}
 use Rattle.judge_conditions.proofs.Outcomes.{Judgeable}
 use Rattle.row_filling.proofs.Scratch.{width, row-part}
 use Rattle.row_filling.proofs.WordRow.{Inside, lasso-inside}

@@ -1,9 +1,7 @@
 -- Folding: a folded formula holds where its source does, is in every class that its source is in, has no letters but its source's, stays plain, and
 -- has nothing left to fold; and each of its subformulas is the folding of one of its source's.
-use Prim.Native.Nat.{ℕ, zero, suc, _≤_, _<_}
-use native.Mathlib.Nat.{le-refl}
-use native.Mathlib.Omega.{arith}
-use mathlib.Core.Path.{_≡_, refl, subst}
+use Prim.Native.Nat.{ℕ, zero, suc}
+use mathlib.Core.Path.{_≡_, refl}
 use mathlib.Core.Bool.{Bool, true, false, _&&_}
 use mathlib.Core.Logic.{_↔_, _⊎_, inl, inr, Iff·rfl, Iff·trans}
 use mathlib.Core.List.{List, [], _∷_}
@@ -11,7 +9,7 @@ use lib.ListN.{getD}
 use lib.Dec.{T}
 use Rattle.logic.specs.Formula.{Formula, Unary, Binary, const, lit, un, bin, next, neg, finally, globally, conj, disj, until, weak, release, strong, implies}
 use Rattle.logic.specs.Lasso.{Word}
-use Rattle.logic.specs.Semantics.{Predicate, Until, Strong, Release, Constant, Holds}
+use Rattle.logic.specs.Semantics.{Constant, Holds}
 use Rattle.logic.specs.Hierarchy.{Closing, Closure, base, step, join, Atomic, constant, literal, Δ₀, Σ₁, Π₁, Σ₂, Π₂, Δ₂, classes, Class}
 use Rattle.logic.specs.Letters.{Letters}
 use Rattle.logic.specs.NegationNormalForm.{isPlain, plainUnary, plainBinary}
@@ -20,7 +18,7 @@ use Rattle.logic.specs.Subformula.{Sub}
 use Rattle.logic.specs.Folding as folding
 use Rattle.logic.specs.Folding.{Fold, stands, onLeft, onRight, onOperand, byConstant, orElse, pick, foldUnary, foldBinary, fold}
 use Rattle.logic.proofs.Tests.{T-and}
-use Rattle.logic.proofs.Numbers.{lt-or-le}
+use Rattle.logic.proofs.Expansion.{until-next, strong-next, weak-next, release-next}
 use Rattle.logic.proofs.Lasso.Driven.{unary-same, binary-same}
 use Rattle.logic.proofs.Normal.PlainFormula.{sub-trans, sub-constant, sub-literal, sub-unary, sub-binary}
 
@@ -51,29 +49,6 @@ by-either P folding.left g p q = p
 by-either P folding.right g p q = p
 by-either P stands g p q = q
 
--- a goal at the present is reached
-at-once : (P Q : Predicate) (i : ℕ) → Q i → Until P Q i
-at-once P Q i q = (i, le-refl i, q, λ j a b. absurd (omega arith))
-
--- false up to a later position is never so, so the goal is at the present
-never-until : (Q : Predicate) (i : ℕ) → Until (Constant false) Q i → Q i
-never-until Q i u = go (lt-or-le i (u .0))
-  where
-    go : (i < u .0) ⊎ (u .0 ≤ i) → Q i
-    go (inl h) = absurd (u .3 i (le-refl i) h)
-    go (inr h) = subst Q (omega (arith, u .1)) (u .2)
-
--- M at the present; and M and R have their right operand there
-strong-now : (P Q : Predicate) (i : ℕ) → P i → Q i → Strong P Q i
-strong-now P Q i p q = (i, le-refl i, p, λ j a b. subst Q (omega arith) q)
-
-strong-holds : (P Q : Predicate) (i : ℕ) → Strong P Q i → Q i
-strong-holds P Q i s = s .3 i (le-refl i) (s .1)
-
-release-holds : (P Q : Predicate) (i : ℕ) → Release P Q i → Q i
-release-holds P Q i (inl f) = f i (le-refl i)
-release-holds P Q i (inr s) = strong-holds P Q i s
-
 -- each rule of folding keeps the meaning
 module _ (σ : Word) (i : ℕ) where
   left-holds : (o : Binary) (c : Bool) (b : Formula) → Holds σ (pick (onLeft o c) (const c) b (bin o (const c) b)) i ↔ Holds σ (bin o (const c) b) i
@@ -81,15 +56,16 @@ module _ (σ : Word) (i : ℕ) where
   left-holds conj true b = (λ q. (tt, q), λ p. p .1)
   left-holds disj false b = (λ q. inr q, λ p. elim p [ inl t ↦ absurd t | inr q ↦ q ])
   left-holds disj true b = (λ t. inl tt, λ p. tt)
-  left-holds until false b = (at-once (Constant false) (Holds σ b) i, never-until (Holds σ b) i)
+  left-holds until false b =
+      (λ q. until-next (Constant false) (Holds σ b) i .1 (inl q), λ u. elim (until-next (Constant false) (Holds σ b) i .0 u) [ inl q ↦ q | inr x ↦ absurd (x .0) ])
   left-holds until true b = Iff·rfl
   left-holds weak false b =
-      (λ q. inr (at-once (Constant false) (Holds σ b) i q), λ p. elim p [ inl f ↦ absurd (f i (le-refl i)) | inr u ↦ never-until (Holds σ b) i u ])
+      (λ q. weak-next (Constant false) (Holds σ b) i .1 (inl q), λ w. elim (weak-next (Constant false) (Holds σ b) i .0 w) [ inl q ↦ q | inr x ↦ absurd (x .0) ])
   left-holds weak true b = (λ t. inl (λ k h. tt), λ p. tt)
   left-holds release false b = Iff·rfl
-  left-holds release true b = (λ q. inr (strong-now (Constant true) (Holds σ b) i tt q), release-holds (Constant true) (Holds σ b) i)
+  left-holds release true b = (λ q. release-next (Constant true) (Holds σ b) i .1 (q, inl tt), λ r. release-next (Constant true) (Holds σ b) i .0 r .0)
   left-holds strong false b = (λ t. absurd t, λ s. s .2)
-  left-holds strong true b = (strong-now (Constant true) (Holds σ b) i tt, strong-holds (Constant true) (Holds σ b) i)
+  left-holds strong true b = (λ q. strong-next (Constant true) (Holds σ b) i .1 (q, inl tt), λ s. strong-next (Constant true) (Holds σ b) i .0 s .0)
   left-holds implies c b = Iff·rfl
 
   right-holds : (o : Binary) (a : Formula) (c : Bool) → Holds σ (pick (onRight o c) a (const c) (bin o a (const c))) i ↔ Holds σ (bin o a (const c)) i
@@ -97,11 +73,11 @@ module _ (σ : Word) (i : ℕ) where
   right-holds conj a true = (λ q. (q, tt), λ p. p .0)
   right-holds disj a false = (λ q. inl q, λ p. elim p [ inl q ↦ q | inr t ↦ absurd t ])
   right-holds disj a true = (λ t. inr tt, λ p. tt)
-  right-holds until a c = (at-once (Holds σ a) (Constant c) i, λ u. u .2)
+  right-holds until a c = (λ t. until-next (Holds σ a) (Constant c) i .1 (inl t), λ u. u .2)
   right-holds weak a false = Iff·rfl
-  right-holds weak a true = (λ t. inr (at-once (Holds σ a) (Constant true) i tt), λ p. tt)
-  right-holds release a c = (λ t. inl (λ k h. t), release-holds (Holds σ a) (Constant c) i)
-  right-holds strong a false = (λ t. absurd t, strong-holds (Holds σ a) (Constant false) i)
+  right-holds weak a true = (λ t. weak-next (Holds σ a) (Constant true) i .1 (inl tt), λ p. tt)
+  right-holds release a c = (λ t. inl (λ k h. t), λ r. release-next (Holds σ a) (Constant c) i .0 r .0)
+  right-holds strong a false = (λ t. absurd t, λ s. strong-next (Holds σ a) (Constant false) i .0 s .0)
   right-holds strong a true = Iff·rfl
   right-holds implies a c = Iff·rfl
 

@@ -8,5 +8,6 @@ pub mod Hierarchy
 pub mod Lasso
 pub mod Normal
 pub mod Dialect
+pub mod Expansion
 pub mod Folding
 pub mod After

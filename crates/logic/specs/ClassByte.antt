@@ -2,7 +2,7 @@
 use Prim.Native.Nat.{ℕ, _+_, _*_}
 use mathlib.Core.Bool.{Bool, true, false, _||_, _&&_, cond}
 use mathlib.Core.List.{List, [], _∷_}
-use Rattle.logic.specs.Formula.{Formula, Unary, Binary, const, lit, un, bin, next, neg, finally, globally}
+use Rattle.logic.specs.Formula.{Formula, Unary, const, lit, un, bin, next, neg, finally, globally}
 use Rattle.logic.specs.Hierarchy.{Closing, boolean, least, greatest, closes, closesNext}
 
 abbrev pub isNext : Unary → Bool

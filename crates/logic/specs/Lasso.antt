@@ -1,6 +1,6 @@
 -- Recordings: a word over valuations, finite or looped for ever (an ultimately periodic word, a lasso).
 -- Document 01 calls a valuation a sample and a position a moment.
-use Prim.Native.Nat.{ℕ, zero, suc, _+_, _-_, _%_, _<_, _≤_}
+use Prim.Native.Nat.{ℕ, _+_, _-_, _%_, _<_, _≤_}
 use mathlib.Core.Bool.{Bool, cond}
 use mathlib.Core.List.{List, [], _∷_}
 use native.Mathlib.Decide.{decLt, decLe}

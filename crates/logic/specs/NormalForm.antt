@@ -1,6 +1,6 @@
 -- The normal form of source 002, Theorem 23, in the order of documents 01 and 02: choices, their parts, and the form.
 use Prim.Native.Nat.{ℕ, zero, suc, _/_, _%_, _^_}
-use mathlib.Core.Bool.{Bool, true, false, _||_, cond}
+use mathlib.Core.Bool.{Bool, false, _||_, cond}
 use mathlib.Core.List.{List, [], _∷_, _++_, map, foldl}
 use lib.ListN.{length}
 use lib.Count.{ones}

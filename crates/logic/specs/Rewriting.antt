@@ -2,7 +2,7 @@
 -- Document 01 calls them the steady form by M, the recurring form by N and the opening form by M.
 -- A set of formulas is a test. What an operator becomes is given by what its operands become.
 use mathlib.Core.Bool.{Bool, true, false, cond}
-use Rattle.logic.specs.Formula.{Formula, Unary, Binary, const, lit, un, bin, conj, disj, until, weak, release, strong, implies, G}
+use Rattle.logic.specs.Formula.{Formula, Binary, const, lit, un, bin, conj, disj, until, weak, release, strong, implies, G}
 
 -- a U b becomes a W b, and a M b becomes a R b, if chosen; else either becomes false
 abbrev pub steadyOp : Bool → Binary → Formula → Formula → Formula

@@ -1,6 +1,6 @@
 -- How the normal-form step ends: a refused table, a table that is its own form, an until-like word past the limit, and a normal form, which fits the
 -- result or does not.
-use Prim.Native.Nat.{ℕ, _+_, _*_, _-_, _≤_, _<_, min}
+use Prim.Native.Nat.{ℕ, _+_, _-_, _≤_, _<_, min}
 use native.Mathlib.Omega.{arith}
 use mathlib.Core.Path.{_≡_, ap, sym, subst, _∙_}
 use mathlib.Core.Bool.{true, false}

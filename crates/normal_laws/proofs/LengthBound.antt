@@ -1,13 +1,13 @@
 -- The length of a folded normal form, by the formulas that it is made of before it is folded: what each word adds under each rewriting, each chosen word as a conjunct, and each choice as a disjunct.
-use Prim.Native.Nat.{ℕ, zero, suc, _+_, _*_, _/_, _%_, _^_, _≤_, _<_}
+use Prim.Native.Nat.{ℕ, zero, suc, _+_, _*_, _^_, _≤_, _<_}
 use native.Mathlib.Omega.{arith}
 use native.Mathlib.Nat.{suc-mul, mul-add, mul-le-mul-right}
 use mathlib.Core.Path.{_≡_, refl, sym, ap, subst}
 use mathlib.Core.Logic.{_⊎_, ⊎-elim}
-use mathlib.Core.Bool.{Bool, true, false, cond, true≢false}
+use mathlib.Core.Bool.{Bool, true, false, cond}
 use mathlib.Core.List.{List, [], _∷_, _++_, map, foldl, List·Memᴰ, List·Memᴰ·head, List·Memᴰ·tail, List·Memᴰ·not-nil, List·Memᴰ·cases-cons, List·Memᴰ·append-cases, List·Memᴰ·eq-of-singleton, Memᴰ·append-left, Memᴰ·append-right, Memᴰ·map}
 use lib.ListN.{length, length-append, length-map}
-use Rattle.logic.specs.Formula.{Formula, Binary, const, lit, un, bin, conj, disj, until, weak, release, strong, implies, isLeastOp, isGreatestOp, F, G}
+use Rattle.logic.specs.Formula.{Formula, Binary, const, lit, un, bin, conj, disj, until, weak, release, strong, implies, F, G}
 use Rattle.logic.specs.Folding.{fold}
 use Rattle.logic.specs.Rewriting.{steadyOp, steady, recurringOp, recurring, opening}
 use lib.Dec.{eqb}
@@ -15,7 +15,7 @@ use lib.Count.{ones}
 use native.Mathlib.Decide.{ℕ-discrete}
 use borrow.Author.Tests.{ne-eqb, eq-eqb}
 use Rattle.normal_laws.proofs.ChoiceOrder.{choicesBelow, upTo, choices-first, normalForm-disjoined}
-use Rattle.logic.specs.NormalForm.{isLeast, isGreatest, isFixpoint, keep, chosen, leastOf, greatestOf, member, part, from, joinAll, choicesOf, choices, normalForm}
+use Rattle.logic.specs.NormalForm.{isLeast, isGreatest, isFixpoint, chosen, leastOf, greatestOf, member, part, from, joinAll, choicesOf, choices, normalForm}
 use Rattle.table.specs.Table.{formulas, rule}
 use Rattle.table.specs.Numbering.{tableOf}
 use Rattle.table.specs.Steps.{fixpoints, normalTable}
@@ -174,7 +174,7 @@ mem-mapped g [] m = absurd (List·Memᴰ·not-nil m)
 mem-mapped g {b} (x ∷ l) m =
     ⊎-elim {C = (a : _) × List·Memᴰ a (x ∷ l) × (b ≡ g a)} (λ e. (x, List·Memᴰ·head refl, e)) (λ n. let r = mem-mapped g l n in (r .0, List·Memᴰ·tail (r .1), r .2)) (List·Memᴰ·cases-cons m)
 
-mem-flat : {A B : Type 0} (g : A → List B) {b : B} (l : List A) → List·Memᴰ b (joinAll (map g l)) → (a : A) × List·Memᴰ a l × List·Memᴰ b (g a)
+pub mem-flat : {A B : Type 0} (g : A → List B) {b : B} (l : List A) → List·Memᴰ b (joinAll (map g l)) → (a : A) × List·Memᴰ a l × List·Memᴰ b (g a)
 mem-flat g [] m = absurd (List·Memᴰ·not-nil m)
 mem-flat g {b} (x ∷ l) m =
     ⊎-elim {C = (a : _) × List·Memᴰ a (x ∷ l) × List·Memᴰ b (g a)} (λ e. (x, List·Memᴰ·head refl, e)) (λ n. let r = mem-flat g l n in (r .0, List·Memᴰ·tail (r .1), r .2)) (List·Memᴰ·append-cases (g x) m)

@@ -1,7 +1,7 @@
 -- The table of a formula with letters 1 to 32 is accepted by the checks 1 to 10: it is well formed. Where only plain tables are taken, that of a plain one.
 use Prim.Native.Nat.{ℕ, suc, _≤_, _<_}
 use native.Mathlib.Omega.{arith}
-use mathlib.Core.Path.{_≡_, refl, sym, ap, _∙_}
+use mathlib.Core.Path.{_≡_, refl, sym, _∙_}
 use mathlib.Core.Bool.{Bool, true, false, _&&_, cond, false≢true}
 use mathlib.Core.List.{List}
 use lib.ListN.{length, getD, take}

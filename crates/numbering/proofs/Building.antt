@@ -66,9 +66,6 @@ grows-trans {t} {s} {r} g h = record { rest = g .rest ++ h .rest; is = h .is ∙
 pub grows-length : {t s : List ℕ} → Grows t s → length t ≤ length s
 grows-length {t} {s} g = rw (g .is, length-append) (omega arith)
 
-pub word-grows : {t s : List ℕ} {n w : ℕ} → Grows t s → Word t n w → Word s n w
-word-grows {n} {w} g h = rw (g .is) (word-more (g .rest) h)
-
 pub held-grows : {t s : List ℕ} (φ : Formula) (n : ℕ) → Grows t s → Held t φ n → Held s φ n
 held-grows {t} {s} φ n g h = rw (g .is) (held-more t (g .rest) φ n h)
 

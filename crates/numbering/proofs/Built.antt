@@ -83,9 +83,6 @@ module _ {P : Formula → Type 0} where
 pub letters-hereditary : (Q : ℕ → Type 0) → Hereditary (Letters Q)
 letters-hereditary Q = record { under = λ o a p. p; first = λ o a b p. p .0; second = λ o a b p. p .1 }
 
-pub built-map : {P R : Formula → Type 0} {t : List ℕ} → ((φ : Formula) → P φ → R φ) → Built P t → Built R t
-built-map f b = record { formula = λ i h. let g = b .formula i h in (g .0, g .1, f (g .0) (g .2)) }
-
 -- in a built table operands are earlier words
 module _ (t : List ℕ) (k : length t < 16384) (i : ℕ) where
   made-left : (φ : Formula) → Letters (λ p. p < 16384) φ → Made t i φ → isOperand (holdsLeft (getD t i 0)) ≡ true → left (getD t i 0) ≤ i

@@ -1,25 +1,24 @@
 -- The reader over numbers does what the reader over formulas does: a formula stands there by the number of its word in the words so far.
-use Prim.Native.Nat.{ℕ, zero, suc, _+_, _*_, _/_, _%_, _-_, _≤_, _<_}
+use Prim.Native.Nat.{ℕ, zero, suc, _+_, _*_, _/_, _%_, _-_, _<_}
 use native.Mathlib.Omega.{arith}
 use mathlib.Core.Path.{_≡_, refl, sym, ap, _∙_, subst}
 use mathlib.Core.Bool.{Bool, true, false, _&&_, cond, true≢false}
 use mathlib.Core.List.{List, [], _∷_}
 use lib.ListN.{length}
-use lib.Dec.{eqb, leb, ltb, eqb→eq}
-use borrow.Author.Tests.{eq-eqb, ne-eqb, eqb-false, ltb-true}
+use lib.Dec.{eqb, leb, eqb→eq}
+use borrow.Author.Tests.{eq-eqb, ne-eqb, eqb-false}
 use Rattle.logic.specs.Formula.{Formula, Unary, Binary, const, lit, un, bin, next, neg, finally, globally, conj, disj, until, weak, release, strong, implies}
 use Rattle.table.specs.Node.{kind, left, pack, unaryKind, binaryKind}
-use Rattle.table.specs.Numbering.{Placed, put, build}
+use Rattle.table.specs.Numbering.{put, build}
 use Rattle.table.proofs.Fields.{kind-pack, left-pack}
-use Rattle.numbering.proofs.Building.{build-const, build-lit, build-un, build-bin, build-grows, build-held, held-within, build-length}
-use Rattle.signs.specs.declared.Sign.{Sign}
+use Rattle.numbering.proofs.Building.{build-const, build-lit, build-un, build-bin, build-held, held-within, build-length}
 use Rattle.turns.specs.declared.Turn.{Turn}
 use Rattle.turns.specs.declared.Turn.the-variants as turns
 use Rattle.grammar.specs.Grammar.{Symbol, constant, letter, prefix, operator, open-bracket, close-bracket}
-use Rattle.grammar.specs.Reader.{Open, waiting, bracket, joined, Config, operand, ended, stuck, settle, join, close, shift, Mark, blank, begins, begins-letter, unknown, otherBytes, markOf, State, inside, lettered, dead, going, alive, ofLetter, beginLetter, begin, isDigit, grown, step}
+use Rattle.grammar.specs.Reader.{Open, waiting, bracket, joined, Config, operand, ended, stuck, settle, join, close, shift, Mark, blank, begins, begins-letter, unknown, otherBytes, markOf, State, inside, lettered, dead, going, alive, ofLetter, begin, isDigit, grown, step}
 use Rattle.signs.specs.Signed.{packed, signed}
 use Rattle.settling.specs.Settled.{Ended, isPrefix, settleWords}
-use Rattle.turns.specs.Numbers.{Words, words, stuckWords, endedWords, beginWords, joinWords, closeWords, followWords, followEnded, digitWords, letterWords, turnWords, stepWords}
+use Rattle.turns.specs.Numbers.{Words, words, stuckWords, endedWords, beginWords, joinWords, closeWords, followWords, followEnded, digitWords, letterWords, stepWords}
 use Rattle.turns.specs.Numbers.{size}
 use Rattle.turns.proofs.Sizes.{put-size}
 use Rattle.grammar.proofs.Sound.{NoLetter, Known, mark-known}

@@ -1,30 +1,29 @@
 -- A text read byte by byte: how it stands after i bytes, where it ends, and where it departs from the grammar.
-use Prim.Native.Nat.{ℕ, zero, suc, _+_, _-_, _≤_, _<_}
+use Prim.Native.Nat.{ℕ, suc, _+_, _-_, _≤_, _<_}
 use native.Mathlib.Omega.{arith}
 use native.Mathlib.Numerals.{add-one}
-use mathlib.Core.Path.{_≡_, refl, sym, ap, _∙_, subst}
-use mathlib.Core.Bool.{Bool, true, false, cond, true≢false}
+use mathlib.Core.Path.{_≡_, refl, sym, ap, _∙_}
+use mathlib.Core.Bool.{true, false, true≢false}
 use mathlib.Core.List.{List, [], _∷_}
 use mathlib.Core.Option.{Option, none, some}
-use lib.ListN.{length, getD, drop, length-drop}
+use lib.ListN.{length, getD, drop}
 use lib.Seq.{drop-cons, drop-length}
-use lib.Dec.{eqb}
 use borrow.Author.Tests.{ne-eqb}
-use Rattle.logic.specs.Formula.{Formula, lit}
-use Rattle.table.specs.Numbering.{build, tableOf}
+use Rattle.logic.specs.Formula.{Formula}
+use Rattle.table.specs.Numbering.{tableOf}
 use Rattle.placing.specs.State as draft
 use Rattle.placing.proofs.Putting.{written-length}
 use Rattle.turns.specs.declared.Turn.{Turn}
 use Rattle.turns.specs.declared.Turn.the-variants as turns
 use Rattle.turns.specs.declared.Reader.{Reader}
-use Rattle.grammar.specs.Reader.{Open, waiting, bracket, joined, Config, operand, ended, stuck, settle, Mark, State, inside, lettered, dead, going, alive, ofLetter, begin, markOf, step, run, start, accepted, final, readingOf, departureFrom, departureOf}
-use Rattle.settling.specs.Settled.{topFirst, Room}
-use Rattle.turns.specs.Numbers.{Words, words, endedWords, stepWords, viewed, size, Fit, Makes, isStuck, isEnded}
+use Rattle.grammar.specs.Reader.{waiting, bracket, joined, Config, operand, ended, stuck, State, inside, lettered, alive, ofLetter, markOf, step, run, start, accepted, final, readingOf, departureFrom, departureOf}
+use Rattle.settling.specs.Settled.{Room}
+use Rattle.turns.specs.Numbers.{Words, words, stepWords, viewed, size, isStuck, isEnded}
 use Rattle.parsing.specs.Parsed.{Fresh, Parsed}
 use Rattle.grammar.proofs.Complete.{dead-none}
 use Rattle.settling.proofs.Settling.{top-length}
 use Rattle.turns.proofs.Sizes.{step-size}
-use Rattle.parsing.proofs.Imaging.{openStack, openTable, endedImage, ConfigImage, Image, Bytes, step-image}
+use Rattle.parsing.proofs.Imaging.{ConfigImage, Image, step-image}
 
 -- after i bytes: a state of the reader, whose image the code holds, that still leads to what the text is
 pub record Going (text : List ℕ) (i : ℕ) (y : Words) : Type 0 where

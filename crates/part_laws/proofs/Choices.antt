@@ -6,19 +6,20 @@ use native.Mathlib.Decide.{decLt}
 use mathlib.Core.Path.{_≡_, refl, sym, ap, subst, _∙_}
 use mathlib.Core.Logic.{_↔_, ⊎-elim}
 use mathlib.Core.Bool.{Bool, true, false}
-use mathlib.Core.List.{List, [], _∷_, foldl, List·Memᴰ, List·Memᴰ·head, List·Memᴰ·tail, List·Memᴰ·not-nil, List·Memᴰ·cases-cons, List·Memᴰ·append-cases, Memᴰ·of-map}
+use mathlib.Core.List.{List, [], _∷_, foldl, List·Memᴰ, List·Memᴰ·not-nil, List·Memᴰ·cases-cons}
 use lib.ListN.{length, getD}
 use lib.Count.{ones}
 use lib.Dec.{eqb}
 use Rattle.logic.specs.Bit.{bit}
 use Rattle.logic.specs.Formula.{Formula, bin, disj}
-use Rattle.logic.specs.NormalForm.{below, joinAll, choicesOf, choices, disjoin, from}
+use Rattle.logic.specs.NormalForm.{below, choicesOf, choices, disjoin, from}
 use Rattle.logic.specs.Subformula as subformula
 use Rattle.logic.specs.Subformula.{Sub}
 use Rattle.logic.proofs.Normal.Membership.{mem-keep}
 use Rattle.logic.proofs.Normal.Choices.{mem-choices}
 use Rattle.logic.proofs.Normal.PlainFormula.{sub-trans}
 use Rattle.row_words.proofs.Bits.{packed}
+use Rattle.normal_laws.proofs.LengthBound.{mem-flat}
 use Rattle.table.specs.StepChecks.{isFixpointWord}
 use Rattle.fixpoints.specs.Positions.{bitOf}
 use Rattle.fixpoints.proofs.UntilLike.{bitOf-step}
@@ -27,19 +28,11 @@ below-mem : (n c : ℕ) → List·Memᴰ c (below n) → c < n
 below-mem zero c m = absurd (List·Memᴰ·not-nil m)
 below-mem (suc n) c m = ⊎-elim {C = c < suc n} (λ e. omega arith) (λ k. omega (arith, below-mem n c k)) (List·Memᴰ·cases-cons m)
 
-joinAll-mem {ℓ} : {A : Type ℓ} {a : A} (ls : List (List A)) → List·Memᴰ a (joinAll ls) → (l : List A) × List·Memᴰ l ls × List·Memᴰ a l
-joinAll-mem [] m = absurd (List·Memᴰ·not-nil m)
-joinAll-mem {A} {a} (l ∷ ls) m =
-    ⊎-elim {C = (k : List A) × List·Memᴰ k (l ∷ ls) × List·Memᴰ a k}
-    (λ k. (l, List·Memᴰ·head refl, k)) (λ k. let r = joinAll-mem ls k in (r .0, List·Memᴰ·tail (r .1), r .2)) (List·Memᴰ·append-cases l m)
-
 choice-below : (k c : ℕ) → List·Memᴰ c (choices k) → c < 2 ^ k
 unfolding choices choicesOf
 choice-below k c m =
-    let j = joinAll-mem _ m in
-    let n = Memᴰ·of-map (choicesOf k) (from 0 (suc k)) (j .1) in
-    let x : List·Memᴰ c (choicesOf k (n .0)) = subst (List·Memᴰ c) (sym (n .2)) (j .2) in
-    below-mem (2 ^ k) c (mem-keep (λ d. eqb (ones d) (n .0)) (below (2 ^ k)) x .0)
+    let j = mem-flat (choicesOf k) (from 0 (suc k)) m in
+    below-mem (2 ^ k) c (mem-keep (λ d. eqb (ones d) (j .0)) (below (2 ^ k)) (j .2) .0)
 
 -- the choices among k words are the numbers below 2 ^ k
 pub choices-below : (k c : ℕ) → List·Memᴰ c (choices k) ↔ (c < 2 ^ k)

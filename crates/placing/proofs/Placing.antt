@@ -143,7 +143,3 @@ module _ {s e : State} (φ : Formula) {r : ℕ} (h : Placing s e (build (written
   pub whole-out : fits (length (tableOf φ)) (length (s .out)) ≡ true → e .out ≡ tableOf φ ++ drop (length (tableOf φ)) (s .out)
   unfolding tableOf
   whole-out f = sym (take-append-drop (count e) (e .out)) ∙ ap₂ (λ (a b : List ℕ). a ++ b) (placing-whole .table f) (placing-whole .past f ∙ ap (λ (n : ℕ). drop n (s .out)) (whole-count f))
-
-  pub whole-full : fits (length (tableOf φ)) (length (s .out)) ≡ false → r ≡ 0
-  unfolding tableOf
-  whole-full f = placing-whole .full f

@@ -1,7 +1,7 @@
 -- What each rewriting of a word puts into its slot.
 use Prim.Native.Nat.{ℕ, _<_}
 use mathlib.Core.Path.{_≡_}
-use mathlib.Core.Bool.{Bool, true, false, cond}
+use mathlib.Core.Bool.{Bool, true, cond}
 use Rattle.logic.specs.Formula.{Formula, Binary, const, lit, un, bin, conj, disj, until, weak, release, strong, implies}
 use Rattle.logic.specs.Rewriting.{steady, recurring, opening}
 use Rattle.logic.specs.NormalForm.{isLeast, isGreatest}

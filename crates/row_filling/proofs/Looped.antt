@@ -1,17 +1,16 @@
 -- What the row of a word holds is the truth of its formula, below the number of samples; and where the word's operands are.
 use Prim.Native.Nat.{ℕ, _≤_, _<_}
 use mathlib.Core.Path.{_≡_, refl, sym, ap, _∙_}
-use mathlib.Core.Bool.{Bool, true, false, cond, Bool·beq}
+use mathlib.Core.Bool.{Bool, true, false, cond}
 use mathlib.Core.List.{List}
 use native.Mathlib.Omega.{arith}
-use lib.ListN.{length, getD}
+use lib.ListN.{length}
 use borrow.Author.Tests.{lt-ltb, eq-eqb, ne-eqb}
 use Rattle.logic.specs.Formula.{Formula, Unary, Binary}
-use Rattle.logic.specs.Lasso.{Lasso, letterIn, place, word}
-use Rattle.logic.specs.Truth.{Sequence, Operation, unaryOperation, binaryOperation, looped, truth}
+use Rattle.logic.specs.Lasso.{Lasso, place, word}
+use Rattle.logic.specs.Truth.{Operation, unaryOperation, binaryOperation, looped, truth}
 use Rattle.logic.proofs.Lasso.Sweep.{applied-looped}
 use Rattle.row_words.specs.Row.{row}
-use Rattle.row_words.specs.Writing.{literal}
 use Rattle.rows.proofs.Rows.{row-ext}
 use Rattle.table.specs.Node.{Shape, none, constant, letter, unary, binary, kind, left, right, shape, leftField, rightField}
 use Rattle.table.specs.Table.{formulaBy, formulaOf, wordFormula}

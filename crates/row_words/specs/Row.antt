@@ -2,7 +2,7 @@
 -- Position i stands at bit i % 64, bit 0 the lowest, of word i / 64, counted from 0; the unused high bits are 0.
 -- A truth sequence is a function from positions; of it only what stands below L counts.
 use mathlib.Core.Path.{_≡_}
-use Prim.Native.Nat.{ℕ, zero, suc, _+_, _-_, _*_, _/_, _%_, _≤_, _<_, min}
+use Prim.Native.Nat.{ℕ, zero, suc, _+_, _-_, _*_, _/_, _≤_, _<_, min}
 use mathlib.Core.Bool.{Bool, true, false, cond}
 use mathlib.Core.List.{List, [], _∷_}
 use lib.ListN.{getD}

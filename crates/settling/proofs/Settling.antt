@@ -3,15 +3,15 @@ use Prim.Native.Nat.{ℕ, zero, suc, _+_, _-_, _≤_, _<_}
 use native.Mathlib.Omega.{arith}
 use native.Mathlib.Nat.{not-suc-le-zero}
 use mathlib.Core.Path.{_≡_, refl, sym, ap, _∙_}
-use mathlib.Core.Bool.{Bool, true, false}
+use mathlib.Core.Bool.{true, false}
 use mathlib.Core.List.{List, [], _∷_}
 use lib.ListN.{length, getD, length-append}
 use Rattle.table.specs.Node.{kind, pack}
 use Rattle.table.specs.Numbering.{Placed, find, placeAt, put, fits}
-use Rattle.placing.specs.State.{State, count, written, Numbered, Placing, Putting}
+use Rattle.placing.specs.State.{State, count, written, Numbered, Putting}
 use Rattle.placing.proofs.Putting.{fits-true, written-length}
 use Rattle.settling.specs.declared.Operand.{Operand}
-use Rattle.settling.specs.Settled.{Ended, isPrefix, settleWords, topFirst, placedIn, Room, Settles}
+use Rattle.settling.specs.Settled.{isPrefix, settleWords, topFirst, placedIn, Room, Settles}
 
 pub put-few : (t : List ℕ) (w : ℕ) → length (put t w .table) ≤ suc (length t)
 unfolding put

@@ -1,6 +1,6 @@
 -- The kind that a form puts for a word of a written kind.
 use Prim.Native.Nat.{ℕ}
-use mathlib.Core.Bool.{Bool, true, false, Bool·beq}
+use mathlib.Core.Bool.{Bool, Bool·beq}
 use Rattle.logic.specs.NegationNormalForm as form
 use Rattle.table.specs.Node.{Shape, none, constant, letter, unary, binary, shape, kindOf}
 

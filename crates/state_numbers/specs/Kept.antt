@@ -11,7 +11,7 @@ use Rattle.logic.specs.Formula.{Formula}
 use Rattle.logic.specs.ClassByte.{classByte}
 use Rattle.table.specs.Table.{formulas, formulaOf}
 use Rattle.automata_laws.specs.StateClass.{StateClass, sigma₁, pi₁, sigma₂, pi₂, isSmallest}
-use Rattle.automata_laws.specs.FormulaAutomaton.{State, isProper}
+use Rattle.automata_laws.specs.FormulaAutomaton.{isProper}
 use Rattle.automata_tables.specs.States.{stateWords, numberOf}
 
 -- the place of a class among the states of a word: after Sigma of its own level, where the word has that one too

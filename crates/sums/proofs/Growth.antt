@@ -3,10 +3,8 @@ use Prim.Native.Nat.{ℕ, zero, suc, _<_}
 use native.Mathlib.Omega.{arith}
 use mathlib.Core.Path.{_≡_, refl, sym, subst, subst₂}
 use mathlib.Core.Bool.{Bool, false}
-use mathlib.Core.List.{List}
-use lib.ListN.{length}
 use Rattle.logic.specs.Formula.{Formula, const, lit, un, bin, disj}
-use Rattle.logic.specs.Folding.{Fold, stands, byConstant, onLeft, onRight, orElse, pick, foldBinary}
+use Rattle.logic.specs.Folding.{Fold, stands, byConstant, onLeft, onRight, foldBinary}
 use Rattle.table.specs.Node.{pack, binaryKind}
 use Rattle.table.specs.Numbering.{put, constantWord, build}
 use Rattle.numbering.proofs.Building.{Grows, grows-trans, put-grows, build-grows, build-const, build-bin}

@@ -1,7 +1,7 @@
 -- A disjunction of folded parts while it is built.
 use Prim.Native.Nat.{ℕ, zero, suc, _<_}
 use mathlib.Core.Path.{_≡_}
-use mathlib.Core.Bool.{Bool, false}
+use mathlib.Core.Bool.{false}
 use Rattle.logic.specs.Formula.{Formula, const, lit, un, bin}
 use Rattle.table.specs.Numbering.{build}
 use Rattle.placing.specs.State.{State, written, Numbered, Placing}

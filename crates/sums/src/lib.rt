@@ -1,7 +1,6 @@
 // The parts so far, joined by or: the number of a sum, and one part more.
 use placing::put;
 use table::kinds;
-ghost use Prim.Native.Nat.{_<_};
 ghost use mathlib.Core.Path.{_≡_};
 ghost use Rattle.logic.specs.Formula.{Formula, disj};
 ghost use Rattle.logic.specs.Folding.{foldBinary};

@@ -1,15 +1,13 @@
 -- The three ways in which a step that makes words ends, said once for every step: refused before 12, too long, made.
-use Prim.Native.Nat.{ℕ, zero, suc, _≤_, _<_, min}
+use Prim.Native.Nat.{ℕ, zero, suc}
 use mathlib.Core.Path.{_≡_, refl, ap, sym, _∙_}
-use mathlib.Core.Logic.{_↔_, _⊎_, inl, inr}
+use mathlib.Core.Logic.{_↔_}
 use mathlib.Core.Bool.{Bool, true, false, not, cond}
 use mathlib.Core.List.{List, [], _∷_, _++_}
 use native.Mathlib.Omega.{arith}
 use lib.ListN.{length, take, drop, replicate}
-use lib.Dec.{leb}
 use lib.Seq.{take-append-seam}
-use borrow.Author.Tests.{ne-eqb, le-leb, lt-leb}
-use Rattle.logic.proofs.Numbers.{lt-or-le}
+use borrow.Author.Tests.{ne-eqb}
 use Rattle.refusals.specs.declared.Refusal.{Refusal}
 use Rattle.refusals.specs.declared.Refusal.the-variants.{ResultTooShort, LimitsOutside}
 use Rattle.refusals.specs.declared.Outcome.{Outcome}
@@ -19,7 +17,6 @@ use Rattle.table.specs.declared.limits.Limits.{Limits}
 use Rattle.refusals.specs.Refusals.{first, decideBy, numberOf, outcomeNumber}
 use Rattle.table.specs.Limits.{isPermitted, plainLimit}
 use Rattle.table.specs.Header.{body, headedChecks, headedChecked}
-use Rattle.table.specs.Numbering.{room, fits}
 use Rattle.table.specs.StepChecks.{isFixpointWord, limitChecks, fixpointChecks, resultFits, resultChecks}
 use Rattle.table.specs.Steps.{isNormal}
 use Rattle.table.specs.Frame.{Step, stated, outcomeOf, answerBy, answerOf, resultBy, resultOf, answerNumber, classStep, plainStep, formChecks, normalStep, dialectStep}
@@ -74,15 +71,6 @@ module _ (s : Step) (t slice : List ℕ) where
       unfolding resultOf
       made-result = ap (λ (o : Outcome). resultBy o (s .makes t) slice) made
 
--- a table fits under its header where its words fit after the header's place
-pub header-room : (k n : ℕ) → resultFits (suc k) (suc n) ≡ fits k n
-unfolding fits
-header-room k n = go (lt-or-le (room n) k)
-  where
-    go : ((room n < k) ⊎ (k ≤ room n)) → resultFits (suc k) (suc n) ≡ leb k (room n)
-    go (inl h) = lt-leb (suc k) (min (suc n) 16384) (omega arith) ∙ sym (lt-leb k (room n) h)
-    go (inr h) = le-leb (suc k) (min (suc n) 16384) (omega arith) ∙ sym (le-leb k (room n) h)
-
 -- what an answer tells: the words that were made fit, and stand at the front of the slice
 pub record Answered (s : Step) (t slice : List ℕ) (n : ℕ) : Type 0 where
   pub accepted : first (s .checks t) ≡ outcome.Accepted
@@ -94,10 +82,6 @@ pub record Answered (s : Step) (t slice : List ℕ) (n : ℕ) : Type 0 where
 fit-passed : (b : Bool) → first (record { fails = not b; refusal = ResultTooShort } ∷ []) ≡ outcome.Accepted → b ≡ true
 fit-passed true e = refl
 fit-passed false e = cc
-
-fit-refused : (b : Bool) → first (record { fails = not b; refusal = ResultTooShort } ∷ []) ≡ outcome.Refused ResultTooShort → b ≡ false
-fit-refused true e = cc
-fit-refused false e = refl
 
 module _ (s : Step) (t slice : List ℕ) where
   pub answered : (n : ℕ) → answerOf s t (length slice) ≡ Made n → Answered s t slice n

@@ -17,7 +17,7 @@ use Rattle.table.specs.declared.limits.Limits.{Limits}
 use Rattle.table.specs.declared.answer.Answer.{Answer}
 use Rattle.table.specs.declared.answer.Answer.the-variants.{Made, Refused}
 use Rattle.table.specs.declared.answer.Form.the-variants as form
-use Rattle.refusals.specs.Refusals.{Check, first}
+use Rattle.refusals.specs.Refusals.{first}
 use Rattle.table.specs.Node.{kind, left}
 use Rattle.table.specs.Table.{rule}
 use Rattle.table.specs.Limits.{isPermitted, plainLimit}

@@ -10,7 +10,6 @@ use lib.Dec.{T, lit<}
 use Rattle.logic.specs.Lasso.{Lasso, word}
 use Rattle.logic.specs.Semantics.{Holds}
 use Rattle.logic.specs.ClassByte.{classByte}
-use Rattle.refusals.specs.declared.Refusal.{Refusal}
 use Rattle.refusals.specs.declared.Outcome.{Outcome}
 use Rattle.refusals.specs.declared.Outcome.the-variants.{Accepted, Refused}
 use Rattle.refusals.specs.Refusals.{numberOf, placeOf, first}

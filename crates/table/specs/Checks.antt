@@ -1,5 +1,5 @@
 -- The check table of document 01, numbers 1 to 10: conditions, order, numbers and places.
-use Prim.Native.Nat.{ℕ, zero, suc, pred, _-_}
+use Prim.Native.Nat.{ℕ, zero, suc, _-_}
 use mathlib.Core.Bool.{Bool, true, false, not, _&&_, _||_}
 use mathlib.Core.List.{List, [], _∷_, _++_}
 use lib.ListN.{length}

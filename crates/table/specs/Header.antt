@@ -1,7 +1,7 @@
 -- The header of a table (document 02, N5): the word before the words, of kind 0, with the class byte of the last word in its left field and the
 -- number of words in its right one; and the checks of a table with its header.
 use Prim.Native.Nat.{ℕ}
-use mathlib.Core.Bool.{Bool, true, false, not, _||_, cond}
+use mathlib.Core.Bool.{Bool, false, not, _||_, cond}
 use mathlib.Core.List.{List, [], _∷_, _++_}
 use lib.ListN.{length, getD, drop}
 use lib.Dec.{ltb, leb, eqb}

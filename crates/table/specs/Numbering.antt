@@ -1,7 +1,7 @@
 -- The table of a form: words as first needed, left operand, right operand, then the word; an identical word is used again.
 -- Past 16,383 words an operand's number no longer fits its field. Such a table is never written: it does not fit.
 use Prim.Native.Nat.{ℕ, zero, suc, _+_, min}
-use mathlib.Core.Bool.{Bool, true, false, cond}
+use mathlib.Core.Bool.{Bool, cond}
 use mathlib.Core.List.{List, [], _∷_, _++_}
 use lib.ListN.{length}
 use lib.Dec.{leb, eqb}

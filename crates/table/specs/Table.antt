@@ -1,6 +1,6 @@
 -- The formula that each word of a table stands for. Words are numbered from 1; an operand is the number of an earlier word.
-use Prim.Native.Nat.{ℕ, zero, suc, _-_}
-use mathlib.Core.Bool.{Bool, true, false}
+use Prim.Native.Nat.{ℕ, zero, suc}
+use mathlib.Core.Bool.{false}
 use mathlib.Core.List.{List, [], _∷_, _++_}
 use lib.ListN.{length, getD}
 use Rattle.logic.specs.Formula.{Formula, const, lit, un, bin}

@@ -1,6 +1,6 @@
 -- The tally, before and after a judgement.
-use Prim.Native.Nat.{ℕ, _+_}
-use mathlib.Core.Bool.{Bool, true, false, _||_, cond}
+use Prim.Native.Nat.{_+_}
+use mathlib.Core.Bool.{Bool, _||_, cond}
 use lib.Dec.{ltb, eqb}
 use Rattle.tally.specs.declared.Tally.{Tally}
 

@@ -2,7 +2,7 @@
 use Prim.Native.Nat.{ℕ, _+_, _-_, _^_, _%_, _*_, _≤_, _<_}
 use native.Mathlib.Nat.{eq-or-lt-of-le}
 use native.Mathlib.Omega.{arith}
-use mathlib.Core.Path.{_≡_, refl, sym, ap, subst, _∙_}
+use mathlib.Core.Path.{_≡_, sym, ap, subst, _∙_}
 use mathlib.Core.Bool.{Bool, true, false, true≢false, false≢true}
 use mathlib.Core.Logic.{_⊎_, inl, inr}
 use mathlib.Core.List.{List}
@@ -18,7 +18,7 @@ use Rattle.slots.specs.Slot.{kind}
 use Rattle.draft.specs.Drafted.{Drafted}
 use Rattle.draft.proofs.Drafts.{drafted-within}
 use Rattle.folding.proofs.Roots.{kind-constant, constant-kind}
-use Rattle.filling.specs.Filled.{Roomy, Laid}
+use Rattle.filling.specs.Filled.{Laid}
 use Rattle.parts.specs.Parts.{foldedPart, Ready}
 use Rattle.true_parts.specs.Looked.{openedFold, Opened, Looked}
 

@@ -1,17 +1,16 @@
 -- What the parts of a step make: nothing any more, one entry more, an operator in its bracket, an operand that has ended.
 use Prim.Native.Nat.{ℕ, zero, suc, _+_, _*_, _-_, _/_, _%_, _≤_, _<_}
 use native.Mathlib.Omega.{arith}
-use native.Mathlib.Nat.{not-suc-le-zero}
 use mathlib.Core.Path.{_≡_, refl, sym, ap, _∙_, subst}
-use mathlib.Core.Bool.{Bool, true, false, _&&_, cond}
-use mathlib.Core.List.{List, [], _∷_}
+use mathlib.Core.Bool.{Bool, true, false, _&&_}
+use mathlib.Core.List.{List, _∷_}
 use lib.ListN.{length, getD, set}
 use lib.Seq.{getD-set-same, getD-set-other}
-use lib.Dec.{eqb, leb}
+use lib.Dec.{leb}
 use borrow.Author.Tests.{eq-eqb, ne-eqb, le-leb, lt-leb, leb-true}
 use Rattle.table.specs.Node.{kind, left, pack}
 use Rattle.table.specs.Numbering.{put}
-use Rattle.placing.specs.State.{State, count, written, Numbered}
+use Rattle.placing.specs.State.{State, written, Numbered}
 use Rattle.signs.specs.declared.Sign.{Sign}
 use Rattle.turns.specs.declared.Turn.{Turn}
 use Rattle.turns.specs.declared.Turn.the-variants as turns
@@ -21,8 +20,8 @@ use Rattle.logic.specs.Formula.{Unary, Binary, next, neg, finally, globally, co
 use Rattle.grammar.specs.Grammar.{Symbol, constant, letter, prefix, operator, open-bracket, close-bracket}
 use Rattle.grammar.specs.Reader.{Mark, blank, begins, begins-letter, unknown, markOf, isDigit}
 use Rattle.signs.specs.Signed.{signed, Kinded}
-use Rattle.settling.specs.Settled.{Ended, isPrefix, settleWords, topFirst, placedIn, Settles}
-use Rattle.turns.specs.Numbers.{Words, words, stuckWords, endedWords, joinWords, closeWords, digitWords, letterWords, followEnded, stepWords, turnWords, viewed, Fit, Makes}
+use Rattle.settling.specs.Settled.{Ended, isPrefix, settleWords, topFirst, Settles}
+use Rattle.turns.specs.Numbers.{Words, words, stuckWords, endedWords, joinWords, closeWords, digitWords, letterWords, followEnded, stepWords, turnWords, Fit, Makes}
 use Rattle.settling.proofs.Settling.{top-pop}
 
 abbrev pub stuckReader : ℕ → Reader

@@ -1,13 +1,12 @@
 -- The reader as the code has it: formulas are numbers of words in a table, and what is open is a stack of words, innermost first.
-use Prim.Native.Nat.{ℕ, zero, suc, _+_, _*_, _/_, _%_, _-_, _≤_, _<_}
-use mathlib.Core.Bool.{Bool, true, false, not, _&&_, _||_, cond}
+use Prim.Native.Nat.{ℕ, _+_, _*_, _/_, _%_, _-_, _≤_}
+use mathlib.Core.Bool.{Bool, true, false, _&&_, cond}
 use mathlib.Core.Path.{_≡_}
 use mathlib.Core.List.{List, [], _∷_}
-use lib.ListN.{length, getD}
+use lib.ListN.{length}
 use lib.Dec.{eqb, leb}
-use Rattle.logic.specs.Formula.{Formula, Unary, Binary}
-use Rattle.table.specs.Node.{kind, left, pack, unaryKind, binaryKind}
-use Rattle.table.specs.Numbering.{Placed, put}
+use Rattle.table.specs.Node.{kind, left, pack}
+use Rattle.table.specs.Numbering.{put}
 use Rattle.placing.specs.State as draft
 use Rattle.signs.specs.declared.Sign.{Sign}
 use Rattle.signs.specs.declared.Sign.the-variants.{Blank, Constant, Letter, Prefix, Operator, Open, Close, Unknown}

@@ -12,7 +12,7 @@ use Rattle.logic.specs.ClassByte.{tests, testAll, classByte, inΣ₁, inΠ₁, 
 use Rattle.logic.specs.NormalForm.{keep}
 use Rattle.logic.proofs.Hierarchy.Bits.{ofBits-bit}
 use Rattle.automata.specs.Positive.{Positive, anyOf}
-use Rattle.automata_laws.specs.StateClass.{StateClass, sigma₁, pi₁, sigma₂, pi₂, classBit, inClass, below, within, every, isSmallest, smallestIn}
+use Rattle.automata_laws.specs.StateClass.{StateClass, sigma₁, pi₁, sigma₂, pi₂, classBit, inClass, within, every, isSmallest, smallestIn}
 use Rattle.automata_laws.specs.FormulaAutomaton.{State}
 use Rattle.table.specs.Table.{formulas}
 use Rattle.automata_tables.specs.States.{isState, stateWords, statesFrom, states, numberFrom, numberOf}

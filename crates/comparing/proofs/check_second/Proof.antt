@@ -1,5 +1,5 @@
 -- The recording's checks, and where they pass that of the two counts.
-use mathlib.Core.Path.{sym, ap, _∙_}
+use mathlib.Core.Path.{sym, _∙_}
 use borrow.Author.Needs.{needs}
 use borrow.Author.Tests.{eq-eqb, ne-eqb}
 use Rattle.refusals.proofs.First.{first-append-accepted, first-append-refused}

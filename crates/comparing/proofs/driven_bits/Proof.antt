@@ -1,8 +1,7 @@
 -- As many ones as letters are driven.
 use Prim.Native.Nat.{ℕ, _-_, _^_}
-use mathlib.Core.Path.{_≡_, sym, ap}
+use mathlib.Core.Path.{sym, ap}
 use borrow.Author.Needs.{needs}
-use native.Mathlib.Omega.{arith}
 use Rattle.comparing.proofs.driven_bits.Statement.{statement}
 use Rattle.comparing.proofs.driven_bits.Tie as tie
 

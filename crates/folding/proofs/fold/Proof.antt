@@ -1,8 +1,8 @@
 -- The slots so far are folded.
 use Prim.Native.Nat.{_-_, _≤_}
 use native.Mathlib.Omega.{arith}
-use mathlib.Core.Path.{_≡_, refl, sym, ap, _∙_, subst}
-use lib.ListN.{length, set, length-set}
+use mathlib.Core.Path.{_≡_, refl, _∙_}
+use lib.ListN.{length, length-set}
 use borrow.Author.Needs.{needs}
 use Rattle.folding.specs.Folded.{Folded}
 use Rattle.folding.proofs.Folds.{folded-none, folded-next}

@@ -2,7 +2,6 @@ use borrow.Author.Needs.{needs}
 use Rattle.logic.specs.Formula.{const}
 use Rattle.logic.specs.NormalForm.{choices}
 use mathlib.Core.Bool.{false}
-use Rattle.placing.specs.State.{state}
 use Rattle.choices.specs.Joining.{joined}
 use Rattle.form_table.proofs.Whole.{form-true, placed-true, placed-sum, summed-numbered, ready-first, joinable-first}
 use Rattle.form_table.proofs.form.Statement.{statement}

@@ -1,18 +1,17 @@
 -- Each tier is asked with what it needs, and the part of the result that it is lent serves as the whole.
-use Prim.Native.Nat.{ℕ, _+_, _*_, _≤_, _<_, min}
+use Prim.Native.Nat.{ℕ, _+_, _*_, _≤_, _<_}
 use native.Mathlib.Omega.{arith}
-use mathlib.Core.Path.{_≡_, sym}
+use mathlib.Core.Path.{sym}
 use mathlib.Core.Bool.{true}
 use mathlib.Core.List.{List, _++_}
 use lib.ListN.{length, take, drop, length-replicate}
 use lib.Seq.{length-take-le}
 use borrow.Author.Needs.{needs}
 use Rattle.table.proofs.Accepted.{accepted-well-formed}
-use Rattle.table.specs.Steps.{fixpoints, normalTable}
+use Rattle.table.specs.Steps.{normalTable}
 use Rattle.placing.specs.Written.{Written}
-use Rattle.fixpoints.specs.Positions.{Kept}
 use Rattle.filling.specs.Filled.{draftSize}
-use Rattle.forms.specs.Forms.{positionsLength, shortSlots, middleSlots, mostSlots, Positioned, Sized}
+use Rattle.forms.specs.Forms.{positionsLength, shortSlots, middleSlots, mostSlots}
 use Rattle.forms.proofs.Tiers.{formed-part, sized, capped}
 use Rattle.forms.proofs.form.Statement.{statement}
 use Rattle.forms.proofs.form.Tie as tie

@@ -4,7 +4,6 @@ use borrow.Author.Needs.{needs}
 use borrow.Author.Tests.{lt-ltb, le-ltb}
 use native.Mathlib.Nat.{mul-le-mul}
 use native.Mathlib.Omega.{arith}
-use Rattle.row_words.specs.Row.{rowWords}
 use Rattle.judge_conditions.specs.Checks.{scratchChecks}
 use Rattle.lent_checks.proofs.check_scratch.Statement.{statement}
 use Rattle.lent_checks.proofs.check_scratch.Tie as tie

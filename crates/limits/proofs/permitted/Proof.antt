@@ -1,5 +1,4 @@
 -- Each limit is looked at.
-use mathlib.Core.Path.{sym}
 use borrow.Author.Tests.{le-leb, lt-leb}
 use Rattle.limits.proofs.permitted.Statement.{statement}
 use Rattle.limits.proofs.permitted.Tie as tie

@@ -38,11 +38,6 @@ lasso-inside samples start driven h k = by (decLt start (length samples)) (decLe
     by (yes i) (no j) = absurd (j k)
     by (no i) e = absurd (i h)
 
-pub lasso-word : (samples : List ℕ) (start driven : ℕ) → start < length samples → driven ≤ 32
-    → (i : ℕ) → word (lassoOf samples start driven) i ≡ getD samples (place (length samples) start i) 0
-unfolding word
-lasso-word samples start driven h k i = ap (λ (r : Lasso). word r i) (lasso-inside samples start driven h k .2)
-
 -- below L a position is its own place
 pub place-below : (L s i : ℕ) → i < L → place L s i ≡ i
 unfolding place

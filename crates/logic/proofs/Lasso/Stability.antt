@@ -1,17 +1,16 @@
--- From the loop start on a lasso is stable for every formula at once: what holds again holds again and again, and what
--- holds from now on for ever is what holds everywhere in the loop. GF and FG do not depend on the position.
+-- From the loop start on a lasso is stable for every formula at once: what holds again is what holds somewhere in the loop, and what
+-- holds from now on for ever is what holds everywhere in it.
 use Prim.Native.Nat.{ℕ, _+_, _*_, _≤_, _<_}
-use mathlib.Core.Logic.{_↔_, _⊎_, inl, inr, Iff·rfl, Iff·trans, Iff·symm}
+use mathlib.Core.Logic.{_↔_, inl, inr, Iff·trans}
 use native.Mathlib.Nat.{mul-le-mul-left}
 use native.Mathlib.Omega.{arith}
 use Rattle.logic.specs.Formula.{Formula, F, G}
 use Rattle.logic.specs.Lasso.{Lasso, Word, place, word}
 use Rattle.logic.specs.Semantics.{Predicate, Always, Holds}
 use Rattle.logic.specs.Truth.{truth}
-use Rattle.logic.proofs.Tests.{⊎-iff, →-iff}
 use Rattle.logic.proofs.Lasso.Sequence.{periodic-times}
 use Rattle.logic.proofs.Lasso.Period.{size, period, periodic, place-lt, place-ge}
-use Rattle.logic.proofs.Lasso.Truth.{same-truth, holds-place, holds-decided}
+use Rattle.logic.proofs.Lasso.Truth.{same-truth, holds-place}
 
 abbrev pub Eventually : Predicate → Predicate
 Eventually P i = (k : ℕ) × (i ≤ k) × P k
@@ -64,34 +63,3 @@ module _ (r : Lasso) (φ : Formula) where
 
   pub G-everywhere : (i : ℕ) → r .start ≤ i → Holds (word r) (G φ) i ↔ Everywhere r φ
   G-everywhere i h = Iff·trans (G-always (word r) φ i) (always-everywhere i, λ e. everywhere-always e i h)
-
-  pub GF-somewhere : (i : ℕ) → Holds (word r) (G (F φ)) i ↔ Somewhere r φ
-  GF-somewhere i =
-      Iff·trans (G-always (word r) (F φ) i)
-      (λ t. F-somewhere (i + r .start) (omega arith) .0 (t (i + r .start) (omega arith)), λ u k a. F-eventually (word r) φ k .1 (somewhere-later u k))
-
-  pub FG-everywhere : (i : ℕ) → Holds (word r) (F (G φ)) i ↔ Everywhere r φ
-  FG-everywhere i =
-      Iff·trans (F-eventually (word r) (G φ) i) (
-        λ u. always-everywhere (u .0) (G-always (word r) φ (u .0) .0 (u .2)),
-        λ e. (i + r .start, omega arith, G-everywhere (i + r .start) (omega arith) .1 e),
-      )
-
-  pub F-GF : (i j : ℕ) → r .start ≤ i → Holds (word r) (F φ) i ↔ Holds (word r) (G (F φ)) j
-  F-GF i j h = Iff·trans (F-somewhere i h) (Iff·symm (GF-somewhere j))
-
-  pub G-FG : (i j : ℕ) → r .start ≤ i → Holds (word r) (G φ) i ↔ Holds (word r) (F (G φ)) j
-  G-FG i j h = Iff·trans (G-everywhere i h) (Iff·symm (FG-everywhere j))
-
-  -- the position does not matter
-  pub GF-anywhere : (i j : ℕ) → Holds (word r) (G (F φ)) i ↔ Holds (word r) (G (F φ)) j
-  GF-anywhere i j = Iff·trans (GF-somewhere i) (Iff·symm (GF-somewhere j))
-
-  pub FG-anywhere : (i j : ℕ) → Holds (word r) (F (G φ)) i ↔ Holds (word r) (F (G φ)) j
-  FG-anywhere i j = Iff·trans (FG-everywhere i) (Iff·symm (FG-everywhere j))
-
-  pub GF-decided : Somewhere r φ ⊎ (Somewhere r φ → ⊥)
-  GF-decided = ⊎-iff (GF-somewhere 0) (→-iff (GF-somewhere 0) Iff·rfl) .0 (holds-decided r (G (F φ)) 0)
-
-  pub FG-decided : Everywhere r φ ⊎ (Everywhere r φ → ⊥)
-  FG-decided = ⊎-iff (FG-everywhere 0) (→-iff (FG-everywhere 0) Iff·rfl) .0 (holds-decided r (F (G φ)) 0)

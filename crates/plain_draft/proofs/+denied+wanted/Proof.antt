@@ -3,7 +3,7 @@
 use Prim.Native.Nat.{ℕ, _<_}
 use native.Mathlib.Omega.{arith}
 use borrow.Author.Needs.{needs}
-use Rattle.logic.specs.Formula.{next, neg, finally, globally, implies}
+use Rattle.logic.specs.Formula.{implies}
 use mathlib.Core.Bool.{true, false}
 use Rattle.plain_draft.proofs.Filling.{asked-after, known-formed, earlier-falls, asked-earlier}
 use Rattle.plain_draft.proofs.Forming.{right-earlier, left-binary, left-operator, leaf-formed, not-formed, next-formed, finally-formed, globally-formed, implies-formed, operator-formed}

@@ -1,6 +1,5 @@
 -- The loop's invariant: the rows of the words passed stand at the start of the scratch, and past them its own words.
 use Prim.Native.Nat.{ℕ, _-_, _≤_}
-use borrow.Author.Needs.{needs}
 use lib.ListN.{length, take, length-take}
 use lib.Seq.{length-front}
 use mathlib.Core.Path.{_≡_, refl, _∙_}

@@ -1,7 +1,6 @@
 -- A left field of 0 is that of a word with one operand.
 use borrow.Author.Needs.{needs}
 use borrow.Author.Tests.{eq-eqb, ne-eqb}
-use mathlib.Core.Path.{sym, _∙_}
 use Rattle.row_filling.specs.Filling.{firstOperand}
 use Rattle.row_filling.proofs.first_operand.Statement.{statement}
 use Rattle.row_filling.proofs.first_operand.Tie as tie

@@ -2,7 +2,7 @@
 use native.Mathlib.Omega.{arith}
 use borrow.Author.Needs.{needs}
 use Rattle.placing.specs.State.{state}
-use Rattle.settling.proofs.Settling.{put-made, Put, end-room, end-settles}
+use Rattle.settling.proofs.Settling.{put-made, end-room, end-settles}
 use Rattle.settling.proofs.end.Statement.{statement}
 use Rattle.settling.proofs.end.Tie as tie
 

@@ -1,6 +1,5 @@
 use Prim.Native.Nat.{ℕ, zero, suc}
 use mathlib.Core.Path.{_≡_, refl}
-use borrow.Author.Needs.{needs}
 use Rattle.sums.specs.declared.Sum.the-variants.{At}
 use Rattle.sums.specs.Summed.{atOf}
 use Rattle.sums.proofs.at.Statement.{statement}

@@ -1,5 +1,4 @@
 use Prim.Native.Nat.{_-_}
-use native.Mathlib.Omega.{arith}
 use mathlib.Core.Path.{ap}
 use lib.Pow.{pow-pos}
 use borrow.Author.Needs.{needs}

@@ -1,6 +1,5 @@
-use Prim.Native.Nat.{_+_, _*_, _<_, _^_}
+use Prim.Native.Nat.{_+_, _*_}
 use native.Mathlib.Omega.{arith}
-use mathlib.Core.List.{List}
 use lib.ListN.{length}
 use borrow.Author.Needs.{needs}
 use Rattle.filling.proofs.Part.{rule-opened}

@@ -1,5 +1,4 @@
 -- Both tests, one after the other.
-use mathlib.Core.Path.{sym}
 use borrow.Author.Tests.{le-leb, lt-leb}
 use Rattle.turns.proofs.is_digit.Statement.{statement}
 use Rattle.turns.proofs.is_digit.Tie as tie

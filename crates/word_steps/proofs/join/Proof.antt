@@ -1,5 +1,4 @@
 -- Each connective has its law over packed positions.
-use mathlib.Core.Path.{_∙_}
 use Rattle.row_words.proofs.Bits.{pack-and, pack-or, pack-not, pack-ones, pack-zeros}
 use Rattle.word_steps.proofs.Words.{pack-implies}
 use borrow.Author.Needs.{needs}

@@ -1,7 +1,6 @@
 -- The rows' words by their definition.
 use borrow.Author.Needs.{needs}
 use mathlib.Core.Path.{refl}
-use Rattle.row_words.specs.Row.{rowWords}
 use Rattle.row_words.proofs.word.row_words.Statement.{statement}
 use Rattle.row_words.proofs.word.row_words.Tie as tie
 

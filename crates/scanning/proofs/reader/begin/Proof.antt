@@ -1,9 +1,9 @@
 -- By the sign, where an operand is to begin.
 use native.Mathlib.Omega.{arith}
-use mathlib.Core.Path.{_≡_, sym, ap, _∙_, subst}
+use mathlib.Core.Path.{_≡_, sym, ap, subst}
 use Rattle.placing.specs.State.{state, written}
 use Rattle.signs.specs.declared.Sign.{Sign}
-use Rattle.signs.specs.declared.Sign.the-variants.{Blank, Constant, Letter, Prefix, Operator, Open, Close, Unknown}
+use Rattle.signs.specs.declared.Sign.the-variants.{Blank, Letter}
 use Rattle.signs.specs.Signed.{Kinded}
 use Rattle.settling.specs.Settled.{topFirst}
 use Rattle.turns.specs.Numbers.{Words, beginWords}
