@@ -9,13 +9,15 @@ mod shapes;
 mod stack;
 mod timing;
 mod typed;
+mod watching;
 
 use hashmap::Form;
 use library::Recording;
 use rules::Rule;
-use shapes::{mixed, noise, over_letters, recording, FREE, PLAIN, WRITTEN};
+use shapes::{mixed, noise, over_letters, recording, FREE, PLAIN, SIGMA, WRITTEN};
 use std::hint::black_box;
 use timing::{in_turn, least, least_ms, pair, ratio};
+use watching::{ROOM, SAMPLE};
 
 // The slices that the program lends. Lengths of tables count the header; where words are told, they leave it out.
 const PLAIN_ROOM: usize = 131;
@@ -25,13 +27,14 @@ fn main() {
     println!("each figure the least of {} rounds after a warm-up; slices are lent again, not cleared between", timing::ROUNDS);
     let asked: Vec<String> = std::env::args().skip(1).collect();
     let rules = || rules::read(include_str!("rules.txt"));
-    let sections: [(&str, &str, &dyn Fn()); 8] = [
+    let sections: [(&str, &str, &dyn Fn()); 9] = [
         ("same", "the same replies and slices", &|| same(&rules())),
         ("check", "check and plain form, beside the hash-map program", &short_steps),
         ("text", "reading texts, beside the hash-map program", &texts),
         ("form", "whole way and normal form, beside the hash-map program", &|| forms(rules())),
         ("dialect", "the dialect without W and M, beside the hash-map program", &dialects),
         ("judge", "the judge", &judges),
+        ("watch", "following a rule, and its automaton", &|| watches(&rules())),
         ("growth", "how cost grows", &growth),
         ("stack", "stack, bytes written to", &stacks),
     ];
@@ -247,6 +250,13 @@ fn judge(name: &str, table: &[u32], samples: &[u32], start: usize) {
     println!("  moment by moment: {:.0} ms, ratio {:.3}", least_ms(&slow, 0), time / least_ms(&slow, 0));
 }
 
+fn watches(rules: &[Rule]) {
+    if !library::WATCHES {
+        return println!("the library has no C names for following and watching");
+    }
+    watching::figures(rules);
+}
+
 fn growth() {
     words();
     rows();
@@ -305,6 +315,15 @@ fn stacks() {
         for n in [1, 64, 512, 16383] {
             let table = shapes::deep(n, 0);
             println!("dialect, {n} words: {}", stack::bytes(|| library::dialect(&table, &mut vec![0; 16384]).unwrap()));
+        }
+    }
+    if library::WATCHES {
+        for n in [1, 64, 512, 4096, 16383] {
+            let table = over_letters(1, n, &SIGMA);
+            let after = || library::after(&table, SAMPLE, 32, &mut vec![0; ROOM]);
+            println!("a step by a sample, {n} words: {}", stack::bytes(after));
+            println!("the states, {n} words: {}", stack::bytes(|| library::states(&table, &mut vec![0; ROOM])));
+            println!("a move, {n} words: {}", stack::bytes(|| library::moved(&table, 1, SAMPLE, 32, &mut vec![0; ROOM])));
         }
     }
     if library::TEXTS {

@@ -1,5 +1,5 @@
-// The normal forms of rules with eight until-like words, by two builds of the library in turn, the one before under names of its own. Each
-// time is the least of 400 rounds after a warm-up; the ratio is the median over the rounds of the one after over the one before.
+// The normal forms of rules with eight until-like words, and of rules that are their own forms, by two builds of the library in turn, the
+// one before under names of its own. Each time is the least of 400 rounds after a warm-up; the ratio is the median over the rounds of the one after over the one before.
 #![allow(dead_code)]
 mod hashmap;
 mod rules;
@@ -32,12 +32,10 @@ extern "C" {
 // The refusal's number and place, and the number of words.
 type Reply = (u32, usize, usize);
 
-// No rule here is its own form.
 fn after(table: &[u32], result: &mut [u32]) -> Reply {
     let (mut in_source, mut form, mut place) = (true, 0, 0);
     let (t, r) = (table.as_ptr(), result.as_mut_ptr());
     let number = unsafe { showrule_normal(t, table.len(), 64, 8, r, result.len(), &mut in_source, &mut form, &mut place) };
-    assert!(!in_source);
     (number, place, form)
 }
 
@@ -65,8 +63,15 @@ fn before(table: &[u32], result: &mut [u32]) -> Reply {
     (number, place, form)
 }
 
+// Rules that are their own forms only where both builds hand them back.
+fn rules() -> Vec<(String, Vec<u32>)> {
+    let eight = shapes::eight_until_like().into_iter().map(|(name, table)| (format!("8 until-like words, {name}"), table));
+    let own = [1, 4].map(|k| (format!("its own, {k} until-like words, nested"), shapes::nested(k)));
+    if cfg!(sources) { eight.chain(own).collect() } else { eight.collect() }
+}
+
 fn main() {
-    for (name, table) in shapes::eight_until_like() {
+    for (name, table) in rules() {
         let (mut result, mut result2) = (vec![0; 4097], vec![0; 4097]);
         let reply = after(&table, &mut result);
         let reply2 = before(&table, &mut result2);
@@ -83,7 +88,7 @@ fn main() {
             ],
         );
         println!(
-            "normal form, 8 until-like words, {name}, {} words to {}, before to {}: before {:.1} us, after {:.1} us, ratio {:.3}",
+            "normal form, {name}, {} words to {}, before to {}: before {:.2} us, after {:.2} us, ratio {:.3}",
             table.len() - 1, reply.2.saturating_sub(1), reply2.2.saturating_sub(1), timing::least_ms(&rounds, 1) * 1e3, timing::least_ms(&rounds, 0) * 1e3, timing::ratio(&rounds, 1)
         );
     }

@@ -42,10 +42,24 @@ extern "C" {
     fn showrule_dialect(table: *const u32, words: usize, result: *mut u32, room: usize, form: *mut usize, place: *mut usize) -> u32;
 }
 
-// Whether the library has C names for the normal form and the whole way, one for reading texts, and one for the dialect.
+#[cfg(watches)]
+extern "C" {
+    fn showrule_after(
+        table: *const u32, words: usize, sample: u32, driven: usize, result: *mut u32, room: usize, form: *mut usize, place: *mut usize,
+    ) -> u32;
+    fn showrule_states(table: *const u32, words: usize, result: *mut u32, room: usize, states: *mut usize, place: *mut usize) -> u32;
+    fn showrule_move(
+        table: *const u32, words: usize, state: usize, sample: u32, driven: usize, result: *mut u32, room: usize, form: *mut usize,
+        place: *mut usize,
+    ) -> u32;
+}
+
+// Whether the library has C names for the normal form and the whole way, one for reading texts, one for the dialect, and those for following
+// and watching.
 pub const FORMS: bool = cfg!(forms);
 pub const TEXTS: bool = cfg!(texts);
 pub const DIALECTS: bool = cfg!(dialects);
+pub const WATCHES: bool = cfg!(watches);
 
 fn reply<T>(number: u32, place: usize, answer: T) -> Result<T, Refused> {
     if number == 0 { Ok(answer) } else { Err((number, place)) }
@@ -138,6 +152,46 @@ pub fn dialect(table: &[u32], result: &mut [u32]) -> Result<usize, Refused> {
 #[cfg(not(dialects))]
 pub fn dialect(_: &[u32], _: &mut [u32]) -> Result<usize, Refused> {
     unreachable!("the library has no C name for the dialect")
+}
+
+#[cfg(watches)]
+pub fn after(table: &[u32], sample: u32, driven: usize, result: &mut [u32]) -> Result<usize, Refused> {
+    let (mut form, mut place) = (0, 0);
+    let number = unsafe {
+        showrule_after(table.as_ptr(), table.len(), sample, driven, result.as_mut_ptr(), result.len(), &mut form, &mut place)
+    };
+    reply(number, place, form)
+}
+
+#[cfg(watches)]
+pub fn states(table: &[u32], result: &mut [u32]) -> Result<usize, Refused> {
+    let (mut states, mut place) = (0, 0);
+    let number = unsafe { showrule_states(table.as_ptr(), table.len(), result.as_mut_ptr(), result.len(), &mut states, &mut place) };
+    reply(number, place, states)
+}
+
+#[cfg(watches)]
+pub fn moved(table: &[u32], state: usize, sample: u32, driven: usize, result: &mut [u32]) -> Result<usize, Refused> {
+    let (mut form, mut place) = (0, 0);
+    let number = unsafe {
+        showrule_move(table.as_ptr(), table.len(), state, sample, driven, result.as_mut_ptr(), result.len(), &mut form, &mut place)
+    };
+    reply(number, place, form)
+}
+
+#[cfg(not(watches))]
+pub fn after(_: &[u32], _: u32, _: usize, _: &mut [u32]) -> Result<usize, Refused> {
+    unreachable!("the library has no C name for a step by a sample")
+}
+
+#[cfg(not(watches))]
+pub fn states(_: &[u32], _: &mut [u32]) -> Result<usize, Refused> {
+    unreachable!("the library has no C name for the states of an automaton")
+}
+
+#[cfg(not(watches))]
+pub fn moved(_: &[u32], _: usize, _: u32, _: usize, _: &mut [u32]) -> Result<usize, Refused> {
+    unreachable!("the library has no C name for a move")
 }
 
 // Samples, the loop start, and how many letters are driven.

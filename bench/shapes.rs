@@ -3,10 +3,11 @@ use crate::hashmap::is_delta_2;
 use crate::rules;
 use crate::rules::{headed, word};
 
-// The operators of plain and of written tables, and of the dialect without W and M.
+// The operators of plain and of written tables, of the dialect without W and M, and of tables in Sigma-1.
 pub const PLAIN: [u32; 7] = [5, 6, 7, 8, 9, 10, 11];
 pub const WRITTEN: [u32; 11] = [5, 6, 7, 8, 9, 10, 11, 12, 13, 14, 15];
 pub const FREE: [u32; 5] = [5, 6, 7, 8, 10];
+pub const SIGMA: [u32; 5] = [5, 6, 7, 8, 11];
 
 // Numbers that look random.
 pub struct Numbers(pub u64);

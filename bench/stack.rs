@@ -4,7 +4,7 @@ use std::ptr::{read_volatile, write_volatile};
 use std::thread;
 
 const PAINT: u64 = 0xA5C3_96E1_5A3C_691E;
-const PAINTED: usize = 1 << 17; // words, 1 MB
+const PAINTED: usize = 1 << 18; // words, 2 MB
 
 // The bytes of stack that a call writes to, beyond those of a call that does nothing.
 pub fn bytes<T>(call: impl Fn() -> T + Sync) -> usize {

@@ -1,2 +1,2 @@
--- The form as it is written to a slice.
+-- How long a form can be.
 pub mod Forms

@@ -3,17 +3,11 @@ ghost use Prim.Native.Nat.{_+_, _*_, _<_, min};
 ghost use mathlib.Core.Path.{_≡_};
 ghost use Rattle.table.specs.Steps.{normalTable};
 ghost use Rattle.placing.specs.Written.{Written};
-ghost use Rattle.forms.specs.Forms.{mostWords, shortSlots, middleSlots, mostSlots, Positioned, Sized, Accepted};
+ghost use Rattle.form_rooms.specs.Rooms.{Accepted, Positioned};
+ghost use Rattle.forms.specs.Forms.{mostWords};
 
-// The sizes of the local arrays: a position for each word of a plain table, by its number, and the slots of a short draft, of a middling one and
-// of any.
+// A position for each word of a plain table, by its number.
 const POSITIONS: usize = 515;
-
-const SHORT_SLOTS: usize = 256;
-
-const MIDDLE_SLOTS: usize = 1024;
-
-const SLOTS: usize = 2605;
 
 // As many words as the form of n words, of which so many are until-like, can have, but no more than there is room for.
 pub fn words(n: usize, bits: u32, room: usize) -> usize
@@ -25,75 +19,6 @@ pub fn words(n: usize, bits: u32, room: usize) -> usize
     if most < room { most } else { room }
 }
 
-// A short rule's form.
-pub fn small(table: &[u32], positions: &[u8], bits: u32, out: &mut [u32]) -> usize
-    requires { ⌜ Positioned (now table) (now positions) bits × Sized (now table) shortSlots (now out) 1023 ⌝ }
-    ensures { λ r. ⌜ Written (normalTable (now (table .entry))) (now (out .entry)) (now (out .exit)) r ⌝ }
-{
-    let mut draft = [0u64; SHORT_SLOTS];
-    let mut folded = [0u64; SHORT_SLOTS];
-    let mut numbers = [0u16; SHORT_SLOTS];
-    let mut stack = [0u32; SHORT_SLOTS];
-    let mut index = [0u16; 2048];
-    form_table::form(
-        table,
-        positions,
-        bits,
-        &mut draft,
-        &mut folded,
-        &mut numbers,
-        &mut stack,
-        out,
-        &mut index,
-    )
-}
-
-// A form of at most as many words as a desk's program has room for.
-pub fn middle(table: &[u32], positions: &[u8], bits: u32, out: &mut [u32]) -> usize
-    requires { ⌜ Positioned (now table) (now positions) bits × Sized (now table) middleSlots (now out) 4096 ⌝ }
-    ensures { λ r. ⌜ Written (normalTable (now (table .entry))) (now (out .entry)) (now (out .exit)) r ⌝ }
-{
-    let mut draft = [0u64; MIDDLE_SLOTS];
-    let mut folded = [0u64; MIDDLE_SLOTS];
-    let mut numbers = [0u16; MIDDLE_SLOTS];
-    let mut stack = [0u32; MIDDLE_SLOTS];
-    let mut index = [0u16; 8194];
-    form_table::form(
-        table,
-        positions,
-        bits,
-        &mut draft,
-        &mut folded,
-        &mut numbers,
-        &mut stack,
-        out,
-        &mut index,
-    )
-}
-
-// Any form.
-pub fn large(table: &[u32], positions: &[u8], bits: u32, out: &mut [u32]) -> usize
-    requires { ⌜ Positioned (now table) (now positions) bits × Sized (now table) mostSlots (now out) 16383 ⌝ }
-    ensures { λ r. ⌜ Written (normalTable (now (table .entry))) (now (out .entry)) (now (out .exit)) r ⌝ }
-{
-    let mut draft = [0u64; SLOTS];
-    let mut folded = [0u64; SLOTS];
-    let mut numbers = [0u16; SLOTS];
-    let mut stack = [0u32; SLOTS];
-    let mut index = [0u16; 32768];
-    form_table::form(
-        table,
-        positions,
-        bits,
-        &mut draft,
-        &mut folded,
-        &mut numbers,
-        &mut stack,
-        out,
-        &mut index,
-    )
-}
-
 // The number of words of the form, which stand at the front of the result, or 0 where they do not fit.
 pub fn form(table: &[u32], result: &mut [u32]) -> usize
     requires { ⌜ Accepted (now table) ⌝ }
@@ -101,17 +26,30 @@ pub fn form(table: &[u32], result: &mut [u32]) -> usize
 {
     let mut positions = [0u8; POSITIONS];
     let bits = fixpoints::count(table, &mut positions);
+    write(table, &positions, bits, result)
+}
+
+// With the positions of the until-like words. No more of the result is lent than the form can need. That the function calls itself also keeps
+// the arrays of the rooms out of its frame, and out of its callers' for a table that is its own form: the compiler joins no function with
+// large arrays to one that calls itself.
+fn write(table: &[u32], positions: &[u8], bits: u32, result: &mut [u32]) -> usize
+    requires { ⌜ Positioned (now table) (now positions) bits ⌝ }
+    ensures { λ r. ⌜ Written (normalTable (now (table .entry))) (now (result .entry)) (now (result .exit)) r ⌝ }
+{
     let cap = words(table.len(), bits, result.len());
+    if cap < result.len() {
+        return write(table, positions, bits, &mut result[..cap]);
+    }
     let slots = 5 * table.len() + 3 * (bits as usize) + 5;
     if cap <= 1023 {
-        if slots <= SHORT_SLOTS {
-            return small(table, &positions, bits, &mut result[..cap]);
+        if slots <= form_rooms::SHORT_SLOTS {
+            return form_rooms::small(table, positions, bits, result);
         }
     }
     if cap <= 4096 {
-        if slots <= MIDDLE_SLOTS {
-            return middle(table, &positions, bits, &mut result[..cap]);
+        if slots <= form_rooms::MIDDLE_SLOTS {
+            return form_rooms::middle(table, positions, bits, result);
         }
     }
-    large(table, &positions, bits, &mut result[..cap])
+    form_rooms::large(table, positions, bits, result)
 }

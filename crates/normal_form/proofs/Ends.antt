@@ -35,7 +35,7 @@ use Rattle.heading.proofs.Ends.{given-ends}
 use Rattle.heading.proofs.Lent.{lent-finishable, lent-given}
 use Rattle.normal_laws.proofs.Promise.{normal-accepted}
 use Rattle.fixpoints.specs.Positions.{Past}
-use Rattle.forms.specs.Forms.{Accepted}
+use Rattle.form_rooms.specs.Rooms.{Accepted}
 use Rattle.fixpoints.proofs.Positions.{fixpoints-few}
 use Rattle.normal_form.specs.Forms.{Formed, Rewritable}
 

@@ -10,7 +10,7 @@ ghost use lib.ListN.{length};
 ghost use Rattle.table.specs.Header.{headed};
 ghost use Rattle.table.specs.Steps.{normalTable};
 ghost use Rattle.heading.specs.Finished.{Given};
-ghost use Rattle.forms.specs.Forms.{Accepted};
+ghost use Rattle.form_rooms.specs.Rooms.{Accepted};
 ghost use Rattle.table.specs.Frame.{normalStep, resultOf, formOf, handed, formReport};
 ghost use Rattle.normal_form.specs.Forms.{Rewritable, Formed, handedAt};
 

@@ -1,9 +1,9 @@
 use native.Mathlib.Omega.{arith}
 use borrow.Author.Needs.{needs}
-use Rattle.forms.specs.Forms.{mostSlots}
-use Rattle.forms.proofs.Tiers.{formable, formed}
-use Rattle.forms.proofs.large.Statement.{statement}
-use Rattle.forms.proofs.large.Tie as tie
+use Rattle.form_rooms.specs.Rooms.{mostSlots}
+use Rattle.form_rooms.proofs.Rooms.{formable, formed}
+use Rattle.form_rooms.proofs.large.Statement.{statement}
+use Rattle.form_rooms.proofs.large.Tie as tie
 
 form-requires : tie.Need-form-requires
 form-requires c κs = formable mostSlots 32768 16383 (c .before .before .before .before .before .before .before .before .before .pre) (omega arith) (omega arith) (omega arith)

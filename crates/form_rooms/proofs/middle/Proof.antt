@@ -1,9 +1,9 @@
 use native.Mathlib.Omega.{arith}
 use borrow.Author.Needs.{needs}
-use Rattle.forms.specs.Forms.{middleSlots}
-use Rattle.forms.proofs.Tiers.{formable, formed}
-use Rattle.forms.proofs.middle.Statement.{statement}
-use Rattle.forms.proofs.middle.Tie as tie
+use Rattle.form_rooms.specs.Rooms.{middleSlots}
+use Rattle.form_rooms.proofs.Rooms.{formable, formed}
+use Rattle.form_rooms.proofs.middle.Statement.{statement}
+use Rattle.form_rooms.proofs.middle.Tie as tie
 
 form-requires : tie.Need-form-requires
 form-requires c κs = formable middleSlots 8194 4096 (c .before .before .before .before .before .before .before .before .before .pre) (omega arith) (omega arith) (omega arith)

@@ -1,9 +1,9 @@
 use native.Mathlib.Omega.{arith}
 use borrow.Author.Needs.{needs}
-use Rattle.forms.specs.Forms.{shortSlots}
-use Rattle.forms.proofs.Tiers.{formable, formed}
-use Rattle.forms.proofs.small.Statement.{statement}
-use Rattle.forms.proofs.small.Tie as tie
+use Rattle.form_rooms.specs.Rooms.{shortSlots}
+use Rattle.form_rooms.proofs.Rooms.{formable, formed}
+use Rattle.form_rooms.proofs.small.Statement.{statement}
+use Rattle.form_rooms.proofs.small.Tie as tie
 
 form-requires : tie.Need-form-requires
 form-requires c κs = formable shortSlots 2048 1023 (c .before .before .before .before .before .before .before .before .before .pre) (omega arith) (omega arith) (omega arith)

@@ -1,0 +1,2 @@
+-- Forms in rooms of a size.
+pub mod Rooms

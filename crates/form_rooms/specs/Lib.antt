@@ -1,0 +1,2 @@
+-- What a form is asked with.
+pub mod Rooms
