@@ -4,9 +4,7 @@ use native.Mathlib.Omega.{arith}
 use mathlib.Core.Path.{_≡_}
 use mathlib.Core.Bool.{true}
 use mathlib.Core.List.{List, _++_}
-use lib.ListN.{length, take, drop, length-drop}
-use lib.Seq.{length-take-le}
-use borrow.Rule.Slice.PartMut.{putMid}
+use lib.ListN.{length, take, drop}
 use Rattle.refusals.specs.declared.Refusal.{Refusal}
 use Rattle.refusals.specs.declared.Outcome.the-variants as outcome
 use Rattle.refusals.specs.Refusals.{first}
@@ -17,50 +15,20 @@ use Rattle.table.proofs.AfterStep.{after-early, both-accepted}
 use Rattle.table.specs.Checks.{checked}
 use Rattle.table.specs.Header.{headed, body, headedChecked}
 use Rattle.table.specs.Steps.{afterTable}
-use Rattle.table.proofs.Accepted.{accepted-well-formed}
 use Rattle.table.proofs.Header.{accepted-headed}
 use Rattle.placing.specs.Written.{Written, Ends}
-use Rattle.placing.proofs.Placing.{true-fits}
 use Rattle.placing.proofs.Written as writing
-use Rattle.headers.specs.Headable.{Headable}
-use Rattle.heading.specs.Finished.{Finishable, Finished, Given}
+use Rattle.heading.specs.Finished.{Given}
 use Rattle.heading.proofs.Ends.{given-ends}
-use Rattle.heading.proofs.Lent.{lent-finishable, lent-given}
 use Rattle.heading.proofs.Order.{whole-body, some-word}
 use Rattle.after_laws.proofs.Length.{after-short}
-use Rattle.after_laws.proofs.Promise.{after-accepted}
 
--- an accepted table has at most 16,383 words
-pub table-few : (t : List ℕ) → checked true 16383 t ≡ outcome.Accepted → length t ≤ 16383
-table-few t ok = accepted-well-formed true 16383 t ok .few
-
--- the part of a longer slice that is lent
-pub lent-length : (k : ℕ) (out : List ℕ) → k < length out → length (take k out) ≡ k
-lent-length k out h = length-take-le k out (omega arith)
-
+-- the part of a longer slice that is lent serves as the whole
 pub written-part : (v : ℕ) (t out : List ℕ) {part : List ℕ} {n : ℕ} → checked true 16383 t ≡ outcome.Accepted → 3 * length t + 3 < length out
     → Written (afterTable v t) (take (3 * length t + 3) out) part n → Written (afterTable v t) out (part ++ drop (3 * length t + 3) out) n
 written-part v t out ok h q =
     let whole : 3 * length t + 3 ≡ min (length out) (3 * length t + 3) = omega arith in
     writing.written-part (afterTable v t) out (after-short v t ok) whole q
-
--- what remains of accepted words, written after the place of its header to all that is left of a slice
-module _ (v : ℕ) (t : List ℕ) (ok : checked true 16383 t ≡ outcome.Accepted) (result : List ℕ) {part : List ℕ} {n : ℕ} (some : length result ≡ 0 → ⊥)
-    (same : length part ≡ length (take (length result - 1) (body result))) (q : Written (afterTable v t) (take (length result - 1) (body result)) part n) where
-  whole : length result - 1 ≡ min (length (body result)) (length (afterTable v t) + length (body result))
-  whole = omega (arith, length-drop 1 result)
-
-  -- where it fits, it is accepted, and so has a header
-  headable : (n ≡ 0 → ⊥) → Headable (afterTable v t)
-  headable z =
-      let few : length (afterTable v t) ≤ 16383 = omega (arith, true-fits _ _ (q .fit z .fitting)) in
-      record { plainOnly = true; limit = 16383; accepted = after-accepted v t ok few; small = omega arith }
-
-  pub left-finishable : Finishable (putMid 1 (length result - 1) result part) n
-  left-finishable = lent-finishable (afterTable v t) result (omega (arith, some)) _ (omega arith) whole same q headable
-
-  pub left-given : {e : List ℕ} {r : Answer} → Finished (putMid 1 (length result - 1) result part) n e r → Given (headed (afterTable v t)) result e r
-  left-given = lent-given (afterTable v t) result (omega (arith, some)) _ (omega arith) whole same q
 
 module _ (v driven : ℕ) (s result : List ℕ) where
   pub refused : (r : Refusal) → first (afterStep v driven .checks s) ≡ outcome.Refused r → Ends (afterStep v driven) s result (Refused r) result

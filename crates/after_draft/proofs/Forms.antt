@@ -27,7 +27,7 @@ use Rattle.folding.specs.Folded.{foldedSlot}
 use Rattle.folding.proofs.Folds.{drafted-copy, folded-constant, folded-letter, folded-unary, folded-binary}
 use Rattle.source.specs.Source.{Earlier, WordAt}
 use Rattle.source.proofs.Words.{plain-kind}
-use Rattle.after_draft.specs.Slots.{stored, copied, leafSlots, constantAt, junctionSlots, nextSlots, fixpointSlots}
+use Rattle.after_slots.specs.Slots.{stored, copied, leafSlots, constantAt, junctionSlots, nextSlots, fixpointSlots}
 use Rattle.after_draft.specs.Filling.{wordOf, Room, Stepped, Filled, Next}
 
 -- ---- the kinds

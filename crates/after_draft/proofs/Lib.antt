@@ -1,3 +1,2 @@
 -- The laws of a step while its draft is filled.
-pub mod Constants
 pub mod Forms

@@ -1,3 +1,2 @@
 -- What the draft of a step by a sample is.
-pub mod Slots
 pub mod Filling

@@ -17,7 +17,7 @@ use Rattle.draft.specs.Drafted.{Drafted}
 use Rattle.draft.proofs.Growth.{drafted-length}
 use Rattle.source.specs.Source.{WordAt}
 use Rattle.source.proofs.Words.{plain-kind, word-at}
-use Rattle.after_draft.specs.Slots.{stored, copied, leafSlots, constantAt, junctionSlots, nextSlots, fixpointSlots}
+use Rattle.after_slots.specs.Slots.{stored, copied, leafSlots, constantAt, junctionSlots, nextSlots, fixpointSlots}
 use Rattle.after_draft.specs.Filling.{Room, Filled, Next}
 use Rattle.after_draft.proofs.Forms.{plain-at, constant-filled, letter-filled, next-filled, junction-filled, until-at, release-at, fixpoint-filled, none-filled, next-word}
 

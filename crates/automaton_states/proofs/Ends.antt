@@ -14,19 +14,14 @@ use Rattle.table.specs.declared.answer.Answer.the-variants.{Made, Refused}
 use Rattle.table.specs.Checks.{checked}
 use Rattle.table.specs.Header.{body, headedChecked}
 use Rattle.table.specs.Numbering.{room, fits}
-use Rattle.table.proofs.Accepted.{accepted-well-formed}
 use Rattle.table.proofs.Header.{accepted-headed}
 use Rattle.placing.specs.Written.{Ends}
 use Rattle.heading.proofs.Order.{whole-body, some-word}
 use Rattle.automata_tables.specs.States.{stateWords}
 use Rattle.automaton_steps.specs.Steps.{watchedChecks, statesStep}
 use Rattle.automaton_steps.proofs.States.{accepted-watched, states-made, states-unfit}
-use Rattle.state_numbers.specs.Stated.{Stated}
+use Rattle.state_words.specs.Stated.{Stated}
 use Rattle.automaton_states.specs.Listed.{Listed}
-
--- an accepted table has at most 16,383 words
-pub table-few : (t : List ℕ) → checked true 16383 t ≡ outcome.Accepted → length t ≤ 16383
-table-few t ok = accepted-well-formed true 16383 t ok .few
 
 -- the states were written where they fit, and their number is held to the room of the slice
 module _ {t out e : List ℕ} {n m : ℕ} (q : Stated t out e n) (w : m ≡ room (length e)) where

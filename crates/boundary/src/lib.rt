@@ -158,7 +158,7 @@ pub extern "C" fn showrule_states(
         r (now (words .exit)) (now (place .exit)) ⌝ }
     ensures { λ r. ⌜ now (result .exit) ≡ resultOf statesStep (now (table .entry)) (now (result .entry)) ⌝ }
 {
-    table_calls::states(table, result, words, place)
+    automaton_calls::states(table, result, words, place)
 }
 
 // The move of one of them, by its number from 1, on a sample that drives the letters 1 to `driven`, or for number 0 the start: a table
@@ -178,7 +178,7 @@ pub extern "C" fn showrule_move(
         r (now (words .exit)) (now (place .exit)) ⌝ }
     ensures { λ r. ⌜ now (result .exit) ≡ resultOf (moveStep state sample driven) (now (table .entry)) (now (result .entry)) ⌝ }
 {
-    table_calls::moves(table, state, sample, driven, result, words, place)
+    automaton_calls::moves(table, state, sample, driven, result, words, place)
 }
 
 // Whether the rule holds at the first position, at how many, and the first that fails, over a recording that drives the letters 1 to

@@ -1,12 +1,10 @@
 -- The conversion numbered into the part of a slice that is lent, and how the step ends.
-use Prim.Native.Nat.{ℕ, _+_, _-_, _*_, _≤_, _<_, min}
+use Prim.Native.Nat.{ℕ, _+_, _-_, _*_, _<_, min}
 use native.Mathlib.Omega.{arith}
 use mathlib.Core.Path.{_≡_}
 use mathlib.Core.Bool.{true}
 use mathlib.Core.List.{List, _++_}
-use lib.ListN.{length, take, drop, length-drop}
-use lib.Seq.{length-take-le}
-use borrow.Rule.Slice.PartMut.{putMid}
+use lib.ListN.{length, take, drop}
 use Rattle.refusals.specs.declared.Refusal.{Refusal}
 use Rattle.refusals.specs.declared.Outcome.the-variants as outcome
 use Rattle.table.specs.declared.answer.Answer.{Answer}
@@ -16,50 +14,20 @@ use Rattle.table.proofs.Frame.{dialect-early}
 use Rattle.table.specs.Checks.{checked}
 use Rattle.table.specs.Header.{headed, body, headedChecked}
 use Rattle.table.specs.Steps.{dialectTable}
-use Rattle.table.proofs.Accepted.{accepted-well-formed}
 use Rattle.table.proofs.Header.{accepted-headed}
 use Rattle.placing.specs.Written.{Written, Ends}
-use Rattle.placing.proofs.Placing.{true-fits}
 use Rattle.placing.proofs.Written as writing
-use Rattle.headers.specs.Headable.{Headable}
-use Rattle.heading.specs.Finished.{Finishable, Finished, Given}
+use Rattle.heading.specs.Finished.{Given}
 use Rattle.heading.proofs.Ends.{given-ends}
-use Rattle.heading.proofs.Lent.{lent-finishable, lent-given}
 use Rattle.heading.proofs.Order.{whole-body}
 use Rattle.dialect_laws.proofs.Length.{dialect-short}
-use Rattle.dialect_laws.proofs.Promise.{dialect-accepted}
 
--- an accepted table has at most 16,383 words
-pub table-few : (t : List ℕ) → checked true 16383 t ≡ outcome.Accepted → length t ≤ 16383
-table-few t ok = accepted-well-formed true 16383 t ok .few
-
--- the part of a longer slice that is lent
-pub lent-length : (k : ℕ) (out : List ℕ) → k < length out → length (take k out) ≡ k
-lent-length k out h = length-take-le k out (omega arith)
-
+-- the part of a longer slice that is lent serves as the whole
 pub written-part : (t out : List ℕ) {part : List ℕ} {n : ℕ} → checked true 16383 t ≡ outcome.Accepted → 2 * length t + 2 < length out
     → Written (dialectTable t) (take (2 * length t + 2) out) part n → Written (dialectTable t) out (part ++ drop (2 * length t + 2) out) n
 written-part t out ok h q =
     let whole : 2 * length t + 2 ≡ min (length out) (2 * length t + 2) = omega arith in
     writing.written-part (dialectTable t) out (dialect-short t ok) whole q
-
--- the conversion of accepted words, written after the place of its header to all that is left of a slice
-module _ (t : List ℕ) (ok : checked true 16383 t ≡ outcome.Accepted) (result : List ℕ) {part : List ℕ} {n : ℕ} (some : length result ≡ 0 → ⊥)
-    (same : length part ≡ length (take (length result - 1) (body result))) (q : Written (dialectTable t) (take (length result - 1) (body result)) part n) where
-  whole : length result - 1 ≡ min (length (body result)) (length (dialectTable t) + length (body result))
-  whole = omega (arith, length-drop 1 result)
-
-  -- where it fits, it is accepted, and so has a header
-  headable : (n ≡ 0 → ⊥) → Headable (dialectTable t)
-  headable z =
-      let few : length (dialectTable t) ≤ 16383 = omega (arith, true-fits _ _ (q .fit z .fitting)) in
-      record { plainOnly = true; limit = 16383; accepted = dialect-accepted t ok few; small = omega arith }
-
-  pub conversion-finishable : Finishable (putMid 1 (length result - 1) result part) n
-  conversion-finishable = lent-finishable (dialectTable t) result (omega (arith, some)) _ (omega arith) whole same q headable
-
-  pub conversion-given : {e : List ℕ} {r : Answer} → Finished (putMid 1 (length result - 1) result part) n e r → Given (headed (dialectTable t)) result e r
-  conversion-given = lent-given (dialectTable t) result (omega (arith, some)) _ (omega arith) whole same q
 
 -- the part of an accepted table that stands after its header
 pub words-accepted : (s : List ℕ) → headedChecked true 16383 s ≡ outcome.Accepted → checked true 16383 (take (length s - 1) (body s)) ≡ outcome.Accepted

@@ -26,7 +26,7 @@ use Rattle.source.proofs.Words.{plain-kind}
 use Rattle.automata.specs.Positive.{Positive, anyOf, atom}
 use Rattle.automata_laws.specs.StateClass.{StateClass, sigma₁, pi₁, classBit, inClass, within, isSmallest, smallestIn}
 use Rattle.automata_laws.specs.FormulaAutomaton.{State, isProper, combination, movedBy, moveOf}
-use Rattle.state_numbers.specs.Kept.{wordOf, offset}
+use Rattle.state_classes.specs.Kept.{wordOf, offset}
 use Rattle.state_slots.specs.Slots.{three}
 use Rattle.state_slots.proofs.Standing.{Stands, Keeps, keeps-all, keeps-set, keeps-three, drafted-keeps, stored-stands, copied-stands, apart-drafted}
 use Rattle.state_slots.proofs.Classes.{classed}
@@ -34,8 +34,9 @@ use Rattle.word_states.specs.declared.Held.{Held}
 use Rattle.word_states.specs.States.{secondClass, shown, Moving}
 use Rattle.word_states.proofs.Smallest.{bit-of, sigma-shown, pi-shown, second-shown, own-smallest}
 use Rattle.word_states.proofs.Words.{constant-at, letter-at, formula-by, kind-by, combined-proper, byte-is, state-stands}
-use Rattle.after_draft.specs.Slots.{constantAt}
-use Rattle.move_draft.specs.Slots.{constantSlots, overSlots, junctionSlots, heldSlots, stateSlots, letterSlots, nextSlots, lane, innerSlot, outerSlot, fixpointSlots}
+use Rattle.after_slots.specs.Slots.{constantAt}
+use Rattle.move_slots.specs.Slots.{constantSlots, overSlots, junctionSlots, heldSlots, stateSlots, letterSlots}
+use Rattle.temporal_slots.specs.Slots.{nextSlots, lane, innerSlot, outerSlot, fixpointSlots}
 use Rattle.move_draft.specs.Filling.{classAt, combinedBy, moveBy, Room, Moved, Filled, Next}
 use Rattle.move_draft.proofs.Moves.{moved-proper, Junction, junction-at, Fixpoint}
 

@@ -9,7 +9,7 @@ use Rattle.refusals.specs.declared.Outcome.the-variants.{Accepted}
 use Rattle.table.specs.Checks.{checked}
 use Rattle.automata_laws.specs.StateClass.{StateClass, sigma₁, pi₁, within}
 use Rattle.automata_laws.specs.FormulaAutomaton.{combination, moveOf, movedBy}
-use Rattle.state_numbers.specs.Kept.{wordOf, Kept}
+use Rattle.state_classes.specs.Kept.{wordOf, Kept}
 use Rattle.draft.specs.Drafted.{Drafted}
 use Rattle.source.specs.Source.{Inside}
 use Rattle.word_states.specs.States.{secondClass, shown}

@@ -22,7 +22,7 @@ use Rattle.automata_tables.specs.States.{stateWords, statesFrom, states, stateA
 use Rattle.automata_tables.specs.Moves.{asFormula, startOf, moveAt, writtenAt}
 use Rattle.automata_tables.proofs.Numbers.{at-mem}
 use Rattle.automata_tables.proofs.States.{words-length, states-mem, classes-mem}
-use Rattle.state_numbers.specs.Kept.{wordOf, Kept}
+use Rattle.state_classes.specs.Kept.{wordOf, Kept}
 use Rattle.word_states.specs.States.{shown}
 use Rattle.word_states.proofs.Smallest.{number-small}
 use Rattle.move_draft.specs.Filling as moves

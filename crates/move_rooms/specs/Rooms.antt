@@ -11,7 +11,7 @@ use Rattle.automata_laws.specs.StateClass.{StateClass, classBit}
 use Rattle.placing.specs.Written.{Written}
 use Rattle.automata_tables.specs.States.{stateWords, states, stateAt}
 use Rattle.automata_tables.specs.Moves.{moveTable}
-use Rattle.state_numbers.specs.Kept.{wordOf, Kept}
+use Rattle.state_classes.specs.Kept.{wordOf, Kept}
 
 -- state n is that of word w with the class of a bit
 pub record Named (t : List ℕ) (n w bit : ℕ) : Type 0 where

@@ -1,67 +1,47 @@
--- How the normal-form step ends: a refused table, a table that is its own form, an until-like word past the limit, and a normal form, which fits the
--- result or does not.
-use Prim.Native.Nat.{ℕ, _+_, _-_, _≤_, _<_, min}
-use native.Mathlib.Omega.{arith}
-use mathlib.Core.Path.{_≡_, ap, sym, subst, _∙_}
+-- How the normal-form step ends with a refused table and with a table that is its own form, and that an accepted table is its words under their header.
+use Prim.Native.Nat.{ℕ}
+use mathlib.Core.Path.{_≡_, sym, subst, _∙_}
 use mathlib.Core.Bool.{true, false}
 use mathlib.Core.List.{List, _++_}
-use lib.ListN.{length, take, length-drop}
-use borrow.Rule.Slice.PartMut.{putMid}
+use lib.ListN.{length}
 use Rattle.refusals.specs.declared.Refusal.{Refusal}
-use Rattle.refusals.specs.declared.Refusal.the-variants.{TooManyFixpoints, LimitsOutside}
+use Rattle.refusals.specs.declared.Refusal.the-variants.{LimitsOutside}
 use Rattle.refusals.specs.declared.Outcome.the-variants as outcome
-use Rattle.table.specs.declared.answer.Answer.{Answer}
-use Rattle.table.specs.declared.answer.Answer.the-variants.{Made, Refused}
 use Rattle.table.specs.declared.answer.Form.{Form}
 use Rattle.table.specs.declared.answer.Form.the-variants as form
 use Rattle.table.specs.declared.limits.Limits.{Limits}
-use Rattle.refusals.specs.Refusals.{Check, first}
+use Rattle.refusals.specs.Refusals.{Check}
 use Rattle.table.specs.Limits.{isPermitted, plainLimit}
 use Rattle.table.specs.Header.{headed, body, headedChecks, headedChecked}
-use Rattle.table.specs.StepChecks.{fixpointChecks}
-use Rattle.table.specs.Steps.{isNormal, normalTable}
-use Rattle.table.specs.Frame.{formChecks, normalStep, formBy, formOf}
+use Rattle.table.specs.Steps.{isNormal}
+use Rattle.table.specs.Frame.{formChecks, normalStep}
 use Rattle.refusals.proofs.First.{first-append-refused}
-use Rattle.table.proofs.Accepted.{accepted-well-formed}
 use Rattle.table.proofs.Header.{accepted-headed}
 use Rattle.table.proofs.Frame.{normal-early}
-use Rattle.table.proofs.Normal.{form-checked, other-checks, other-makes, own-answer, own-result}
-use Rattle.table.proofs.Stated.{permitted, permitted-checks, outside-checks}
-use Rattle.placing.specs.Written.{Written, Ends}
-use Rattle.placing.proofs.Placing.{true-fits}
+use Rattle.table.proofs.Normal.{own-answer, own-result}
+use Rattle.table.proofs.Stated.{permitted-checks, outside-checks}
 use Rattle.placing.proofs.Written.{ends-refused}
-use Rattle.heading.specs.Finished.{Finishable, Finished, Given}
-use Rattle.heading.proofs.Ends.{given-ends}
-use Rattle.heading.proofs.Lent.{lent-finishable, lent-given}
-use Rattle.normal_laws.proofs.Promise.{normal-accepted}
-use Rattle.fixpoints.specs.Positions.{Past}
-use Rattle.form_rooms.specs.Rooms.{Accepted}
-use Rattle.fixpoints.proofs.Positions.{fixpoints-few}
-use Rattle.normal_form.specs.Forms.{Formed, Rewritable}
+use Rattle.rewritten_form.specs.Forms.{Formed, Rewritable}
+use Rattle.rewritten_form.proofs.Ends.{ends-formed}
 
 module _ (l : Limits) (t result : List ℕ) where
-  -- how the frame's step ends is how the form is answered
-  pub ends-formed : {a : Answer} {e : List ℕ} → Ends (normalStep l) t result a e → Formed l t result (formBy a (isNormal (body t)) (length t)) e
-  unfolding formOf
-  ends-formed q = record { reply = ap (λ (x : Answer). formBy x (isNormal (body t)) (length t)) (q .reply); slice = q .slice }
-
   -- the checks of a table by permitted limits, and those after them
   abbrev rest : List Check
   rest = headedChecks true (plainLimit l) t ++ formChecks l (body t)
 
   pub outside : isPermitted l ≡ false → Formed l t result (form.Refused LimitsOutside) result
-  outside h = ends-formed (ends-refused (normalStep l) t result (normal-early l) LimitsOutside (outside-checks l rest h))
+  outside h = ends-formed l t result (ends-refused (normalStep l) t result (normal-early l) LimitsOutside (outside-checks l rest h))
 
   module _ (p : isPermitted l ≡ true) where
     pub table-refused : (r : Refusal) → headedChecked true (plainLimit l) t ≡ outcome.Refused r → Formed l t result (form.Refused r) result
     unfolding headedChecked
     table-refused r e =
-        ends-formed (ends-refused (normalStep l) t result (normal-early l) r
+        ends-formed l t result (ends-refused (normalStep l) t result (normal-early l) r
         (permitted-checks l rest p ∙ first-append-refused (headedChecks true (plainLimit l) t) (formChecks l (body t)) r e))
 
     module _ (a : headedChecked true (plainLimit l) t ≡ outcome.Accepted) where
       pub own : isNormal (body t) ≡ true → Formed l t result (form.Source (length t)) result
-      own n = rw n at (ends-formed (record { reply = sym (own-answer l t result p a n); slice = sym (own-result l t result p a n) }))
+      own n = rw n at (ends-formed l t result (record { reply = sym (own-answer l t result p a n); slice = sym (own-result l t result p a n) }))
 
 -- an accepted table is its words under their header
 module _ (l : Limits) (t : List ℕ) where
@@ -70,60 +50,3 @@ module _ (l : Limits) (t : List ℕ) where
 
   pub rewritten : {result e : List ℕ} {f : Form} → headedChecked true (plainLimit l) t ≡ outcome.Accepted → Formed l (headed (body t)) result f e → Formed l t result f e
   rewritten {result} {e} {f} a q = subst (λ (u : List ℕ). Formed l u result f e) (sym (accepted-headed true (plainLimit l) t a .whole)) q
-
--- words that are rewritten, of which the first until-like one past the limit was looked for
-module _ {l : Limits} {words : List ℕ} (w : Rewritable l words) (result : List ℕ) {n : ℕ} (q : Past words (l .fixpoints) n) where
-  checks : first (normalStep l .checks (headed words)) ≡ first (fixpointChecks (l .fixpoints) 1 words)
-  checks = form-checked l (headed words) (w .permitted) (w .accepted) ∙ ap first (other-checks l (headed words) (w .other))
-
-  pub past-refused : 0 < n → Formed l (headed words) result (form.Refused (TooManyFixpoints n)) result
-  past-refused h = ends-formed l (headed words) result (ends-refused (normalStep l) (headed words) result (normal-early l) (TooManyFixpoints n) (checks ∙ q .many h))
-
-  module _ (z : n ≤ 0) where
-    pub all-passed : Accepted words
-    all-passed =
-        let h = permitted l (w .permitted) in
-        let a = accepted-headed true (plainLimit l) (headed words) (w .accepted) .words in
-        let f = accepted-well-formed true (plainLimit l) words a in
-        let few = fixpoints-few (l .fixpoints) f (q .few (omega arith)) in
-        record {
-          limit = plainLimit l;
-          accepted = a;
-          short = omega (arith, h .written);
-          few = omega (arith, few, h .fixpoints);
-          drafted = omega (arith, few, f .few, h .written, h .fixpoints);
-        }
-
-    given : {e : List ℕ} {r : Answer} → Given (headed (normalTable words)) result e r → Formed l (headed words) result (formBy r (isNormal words) (length (headed words))) e
-    given {e} {r} g =
-        let made : Given (normalStep l .makes (headed words)) result e r = rw (other-makes l (headed words) (w .other)) g in
-        ends-formed l (headed words) result (given-ends (normalStep l) (headed words) result (checks ∙ q .few (omega arith)) made)
-
-    pub given-made : {e : List ℕ} {m : ℕ} {r : Answer} → r ≡ Made m → Given (headed (normalTable words)) result e r → Formed l (headed words) result (form.Made m) e
-    given-made e g = rw (e, w .other) at (given g)
-
-    pub given-refused : {e : List ℕ} {x : Refusal} {r : Answer} → r ≡ Refused x → Given (headed (normalTable words)) result e r → Formed l (headed words) result (form.Refused x) e
-    given-refused e g = rw e at (given g)
-
--- the words of a form, written after the place of their header
-module _ {words : List ℕ} (q : Accepted words) (result : List ℕ) {part : List ℕ} {n : ℕ} (some : length result ≡ 0 → ⊥)
-    (same : length part ≡ length (take (length result - 1) (body result))) (w : Written (normalTable words) (take (length result - 1) (body result)) part n) where
-  most : ℕ
-  most = length (normalTable words) + length (body result)
-
-  lent : length result - 1 ≡ min (length (body result)) most
-  unfolding most
-  lent = omega (arith, length-drop 1 result)
-
-  pub form-finishable : Finishable (putMid 1 (length result - 1) result part) n
-  unfolding most
-  form-finishable = lent-finishable (normalTable words) result (omega (arith, some)) most (omega arith) lent same w (λ z. record {
-    plainOnly = false;
-    limit = 16383;
-    accepted = normal-accepted (q .limit) words (q .accepted) (omega (arith, q .short)) (omega (arith, true-fits (length (normalTable words)) (length (take (length result - 1) (body result))) (w .fit z .fitting)));
-    small = omega arith;
-  })
-
-  pub form-given : {e : List ℕ} {r : Answer} → Finished (putMid 1 (length result - 1) result part) n e r → Given (headed (normalTable words)) result e r
-  unfolding most
-  form-given = lent-given (normalTable words) result (omega (arith, some)) most (omega arith) lent same w

@@ -1,3 +1,2 @@
--- How the normal-form step ends, and what it hands back.
+-- How the normal-form step ends.
 pub mod Ends
-pub mod Handed

@@ -21,6 +21,10 @@ use Rattle.placing.specs.Written.{Fitting, Written, Ends}
 use Rattle.placing.proofs.Putting.{fits-true, fits-false}
 use Rattle.placing.proofs.Placing.{true-fits, false-fits, placing-fits, placing-unfit, build-positive, placing-whole, whole-out}
 
+-- the part of a longer slice that is lent
+pub lent-length : (k : ℕ) (out : List ℕ) → k < length out → length (take k out) ≡ k
+lent-length k out h = length-take-le k out (omega arith)
+
 -- what was numbered from no words is the formula's table, whose last word is the formula's own
 module _ (φ : Formula) (small : Letters (λ p. p < 16384) φ) {s e : State} {n : ℕ} (q : Placing s e (build (written s) φ) n) (z : count s ≡ 0) where
   pub written-all : Written (tableOf φ) (s .out) (e .out) n

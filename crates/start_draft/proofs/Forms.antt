@@ -23,7 +23,7 @@ use Rattle.source.proofs.Words.{plain-kind}
 use Rattle.automata.specs.Positive.{Positive, atom}
 use Rattle.automata_laws.specs.StateClass.{StateClass, every, isSmallest}
 use Rattle.automata_laws.specs.FormulaAutomaton.{State, isProper, combination}
-use Rattle.state_numbers.specs.Kept.{wordOf, offset}
+use Rattle.state_classes.specs.Kept.{wordOf, offset}
 use Rattle.state_slots.proofs.Standing.{Stands, Keeps, keeps-all, keeps-set, keeps-three, drafted-keeps, stored-stands}
 use Rattle.state_slots.proofs.Classes.{joined, classed}
 use Rattle.word_states.specs.declared.Held.{Held}

@@ -10,7 +10,7 @@ use Rattle.table.specs.Checks.{checked}
 use Rattle.slots.specs.Slot.{pack}
 use Rattle.automata_laws.specs.StateClass.{every}
 use Rattle.automata_laws.specs.FormulaAutomaton.{combination}
-use Rattle.state_numbers.specs.Kept.{wordOf, Kept}
+use Rattle.state_classes.specs.Kept.{wordOf, Kept}
 use Rattle.draft.specs.Drafted.{Drafted}
 use Rattle.source.specs.Source.{Inside}
 use Rattle.state_slots.specs.Slots.{classSlots}

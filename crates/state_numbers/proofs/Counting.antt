@@ -23,10 +23,10 @@ use Rattle.automata_laws.specs.FormulaAutomaton.{isProper}
 use Rattle.automata_tables.specs.States.{classesOf, stateWords, states, statesFrom, numberOf, stateAt, noState}
 use Rattle.automata_tables.proofs.Numbers.{at-mem}
 use Rattle.automata_tables.proofs.States.{classes-mem}
-use Rattle.state_numbers.specs.Classes.{smallestBits, classBits}
-use Rattle.state_numbers.specs.Kept.{wordOf, offset}
+use Rattle.state_classes.specs.Classes.{smallestBits, classBits}
+use Rattle.state_classes.specs.Kept.{wordOf, offset}
+use Rattle.state_classes.proofs.Smallest.{smallest-bits, class-bits, bits-few}
 use Rattle.state_numbers.specs.Numbered.{Classed, statesBefore, Started, Numbered, Filled, InWord, Found}
-use Rattle.state_numbers.proofs.Smallest.{smallest-bits, class-bits, bits-few}
 use Rattle.state_numbers.proofs.States.{before-none, before-more, before-all, map-at, state-at, proper-word, number-is}
 
 -- the bytes that are filled

@@ -22,10 +22,10 @@ use Rattle.automata_laws.specs.FormulaAutomaton.{State, isProper}
 use Rattle.automata_tables.specs.States.{classesOf, stateWord, wordsFrom, stateWords, statesFrom, states, noState, numberOf}
 use Rattle.automata_tables.proofs.Numbers.{NoRepeat, places-norepeat, number-at}
 use Rattle.automata_tables.proofs.States.{states-norepeat, words-length}
-use Rattle.state_numbers.specs.Classes.{isProperKind}
-use Rattle.state_numbers.specs.Kept.{wordOf, offset}
+use Rattle.state_classes.specs.Classes.{isProperKind}
+use Rattle.state_classes.specs.Kept.{wordOf, offset}
+use Rattle.state_classes.proofs.Smallest.{proper-kind, class-place}
 use Rattle.state_numbers.specs.Numbered.{statesBefore}
-use Rattle.state_numbers.proofs.Smallest.{proper-kind, class-place}
 
 abbrev own : Formula → List State
 own φ = map (λ Γ. record { formula = φ; class = Γ }) (classesOf φ)

@@ -1,5 +1,2 @@
--- The classes of words and the numbers of their states, as they are kept.
-pub mod Classes
-pub mod Kept
+-- The numbers of the states of words, as they are kept.
 pub mod Numbered
-pub mod Stated

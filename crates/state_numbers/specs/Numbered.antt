@@ -12,7 +12,7 @@ use Rattle.table.specs.Table.{formulas}
 use Rattle.automata_laws.specs.StateClass.{StateClass, classBit, isSmallest}
 use Rattle.automata_laws.specs.FormulaAutomaton.{isProper}
 use Rattle.automata_tables.specs.States.{stateWords, statesFrom, states, stateAt}
-use Rattle.state_numbers.specs.Kept.{wordOf, Kept}
+use Rattle.state_classes.specs.Kept.{wordOf, Kept}
 
 -- accepted plain words, with the class byte of each
 pub record Classed (t bytes : List ℕ) : Type 0 where

@@ -180,6 +180,10 @@ accepted-well-formed plainOnly limit t e =
           rw place (uses-well-formed t 1 (length t - 1) (rest .1) (n - 1) (omega arith));
     }
 
+-- so a plain table of the steps that take any has at most 16,383 words
+pub table-few : (t : List ℕ) → checked true 16383 t ≡ Accepted → length t ≤ 16383
+table-few t e = accepted-well-formed true 16383 t e .few
+
 -- and a well-formed table is accepted
 pub well-formed-accepted : (plainOnly : Bool) (limit : ℕ) (t : List ℕ) → WellFormed plainOnly limit t → checked plainOnly limit t ≡ Accepted
 unfolding checked tableChecks WordsFrom

@@ -7,7 +7,6 @@ ghost use Rattle.table.specs.Limits.{house};
 ghost use Rattle.table.specs.Header.{headedChecked};
 ghost use Rattle.table.specs.Frame.{classStep, dialectStep, afterStep, outcomeOf, answerOf, resultOf};
 ghost use Rattle.text.specs.Text.{textStep};
-ghost use Rattle.automaton_steps.specs.Steps.{statesStep, moveStep};
 ghost use Rattle.replies.specs.Replies.{TableReply};
 use replies::reply;
 use replies::table_reply;
@@ -72,36 +71,4 @@ pub fn after(
     ensures { λ r. ⌜ now (result .exit) ≡ resultOf (afterStep sample driven) (now (table .entry)) (now (result .entry)) ⌝ }
 {
     table_reply(after::step(table, sample, driven, result), words, place)
-}
-
-// The states of the automaton of a plain table in Delta-2, at the front of the result.
-pub fn states(table: &[u32], result: &mut [u32], words: &mut usize, place: &mut usize) -> u32
-    ensures { λ r. ⌜ TableReply
-        (answerOf statesStep (now (table .entry)) (length (now (result .entry))))
-        r (now (words .exit)) (now (place .exit)) ⌝ }
-    ensures { λ r. ⌜ now (result .exit) ≡ resultOf statesStep (now (table .entry)) (now (result .entry)) ⌝ }
-{
-    table_reply(automaton_states::states(table, result), words, place)
-}
-
-// The table of the move of a state of it by a sample, or for state 0 of its start, at the front of the result.
-pub fn moves(
-    table: &[u32],
-    state: usize,
-    sample: u32,
-    driven: usize,
-    result: &mut [u32],
-    words: &mut usize,
-    place: &mut usize,
-) -> u32
-    ensures { λ r. ⌜ TableReply
-        (answerOf (moveStep state sample driven) (now (table .entry)) (length (now (result .entry))))
-        r (now (words .exit)) (now (place .exit)) ⌝ }
-    ensures { λ r. ⌜ now (result .exit) ≡ resultOf (moveStep state sample driven) (now (table .entry)) (now (result .entry)) ⌝ }
-{
-    table_reply(
-        automaton_moves::moves(table, state, sample, driven, result),
-        words,
-        place,
-    )
 }

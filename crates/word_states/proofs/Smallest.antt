@@ -17,7 +17,7 @@ use Rattle.automata_laws.specs.FormulaAutomaton.{State}
 use Rattle.table.specs.Table.{formulas}
 use Rattle.automata_tables.specs.States.{isState, stateWords, statesFrom, states, numberFrom, numberOf}
 use Rattle.automata_tables.proofs.States.{words-length}
-use Rattle.state_numbers.specs.Kept.{Kept}
+use Rattle.state_classes.specs.Kept.{Kept}
 use Rattle.state_slots.proofs.Classes.{given, joined}
 use Rattle.word_states.specs.States.{secondClass, shown}
 

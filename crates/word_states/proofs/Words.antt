@@ -17,7 +17,7 @@ use Rattle.source.specs.Source.{WordAt}
 use Rattle.automata.specs.Positive.{atom}
 use Rattle.automata_laws.specs.StateClass.{StateClass, isSmallest}
 use Rattle.automata_laws.specs.FormulaAutomaton.{isProper, statesOf, combination}
-use Rattle.state_numbers.specs.Kept.{offset, wordOf, Kept}
+use Rattle.state_classes.specs.Kept.{offset, wordOf, Kept}
 use Rattle.state_slots.proofs.Standing.{Stands}
 use Rattle.word_states.specs.States.{shown}
 use Rattle.word_states.proofs.Smallest.{number-small}

@@ -10,7 +10,7 @@ use Rattle.automata_laws.specs.StateClass.{StateClass, sigma₁, pi₁, sigma�
 use Rattle.automata_laws.specs.FormulaAutomaton.{State}
 use Rattle.automata_tables.specs.States.{numberOf}
 use Rattle.automata_tables.specs.Moves.{asFormula}
-use Rattle.state_numbers.specs.Kept.{offset}
+use Rattle.state_classes.specs.Kept.{offset}
 use Rattle.word_states.specs.declared.Held.{Held}
 
 -- a class of the second level

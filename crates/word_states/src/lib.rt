@@ -4,7 +4,7 @@ ghost use mathlib.Core.Path.{_≡_};
 ghost use mathlib.Core.Bool.{cond};
 ghost use Rattle.logic.specs.Bit.{bit};
 ghost use Rattle.automata_laws.specs.StateClass.{classBit};
-ghost use Rattle.state_numbers.specs.Kept.{offset};
+ghost use Rattle.state_classes.specs.Kept.{offset};
 ghost use Rattle.word_states.specs.States.{secondClass, level, Small, Moving, Starting};
 
 // Whether there is a state of a Sigma class, of the Pi class of its level, and of a further class, and their numbers.

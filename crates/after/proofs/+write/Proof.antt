@@ -6,7 +6,9 @@ use lib.ListN.{length}
 use borrow.Author.Needs.{needs}
 use borrow.Fn.Kinds.{In}
 use borrow.Fn.PlainCycle.{Measures, is, falls, and}
-use Rattle.after.proofs.Ends.{table-few, lent-length, written-part}
+use Rattle.table.proofs.Accepted.{table-few}
+use Rattle.placing.proofs.Written.{lent-length}
+use Rattle.after.proofs.Ends.{written-part}
 use Rattle.after.proofs.write.Reads as write
 use Rattle.after.proofs.write.Kinds as write-kinds
 use Rattle.after.proofs.+write.Lts-write as write-lts

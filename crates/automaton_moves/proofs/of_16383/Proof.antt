@@ -1,6 +1,6 @@
 use borrow.Author.Needs.{needs}
 use native.Mathlib.Omega.{arith}
-use Rattle.automaton_moves.proofs.Ends.{table-few}
+use Rattle.table.proofs.Accepted.{table-few}
 use Rattle.automaton_moves.proofs.of_16383.Statement.{statement}
 use Rattle.automaton_moves.proofs.of_16383.Tie as tie
 

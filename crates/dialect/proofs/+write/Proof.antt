@@ -6,7 +6,9 @@ use lib.ListN.{length}
 use borrow.Author.Needs.{needs}
 use borrow.Fn.Kinds.{In}
 use borrow.Fn.PlainCycle.{Measures, is, falls, and}
-use Rattle.dialect.proofs.Step.{table-few, lent-length, written-part}
+use Rattle.table.proofs.Accepted.{table-few}
+use Rattle.placing.proofs.Written.{lent-length}
+use Rattle.dialect.proofs.Step.{written-part}
 use Rattle.dialect.proofs.write.Reads as write
 use Rattle.dialect.proofs.write.Kinds as write-kinds
 use Rattle.dialect.proofs.+write.Lts-write as write-lts

@@ -4,7 +4,9 @@ use native.Mathlib.Omega.{arith}
 use mathlib.Core.Path.{refl}
 use denote.Ref.{now}
 use Rattle.heading.proofs.Ends.{given-empty}
-use Rattle.dialect.proofs.Step.{conversion-finishable, conversion-given}
+use Rattle.table.specs.Steps.{dialectTable}
+use Rattle.heading.proofs.Lent.{left-finishable, left-given}
+use Rattle.dialect_laws.proofs.Promise.{dialect-accepted}
 use Rattle.dialect.proofs.answer.Statement.{statement}
 use Rattle.dialect.proofs.answer.Tie as tie
 
@@ -21,14 +23,14 @@ finish-requires-2 c κs =
     let wrote = c .before .before .before in
     let tested = wrote .before .before in
     let start = tested .before .before .before in
-    conversion-finishable (now (start .args .words)) (start .pre) (now (start .args .result)) (tested .if1 .left) (wrote .write .kept .1 .0) (wrote .write .ensures)
+    left-finishable (dialectTable (now (start .args .words))) (now (start .args .result)) (dialect-accepted (now (start .args .words)) (start .pre)) (tested .if1 .left) (wrote .write .kept .1 .0) (wrote .write .ensures)
 
 returns-2 : tie.Need-returns-2
 returns-2 c =
     let wrote = c .before .before .before .before .before .before in
     let tested = wrote .before .before in
     let start = tested .before .before .before in
-    conversion-given (now (start .args .words)) (start .pre) (now (start .args .result)) (tested .if1 .left) (wrote .write .kept .1 .0) (wrote .write .ensures) (c .before .before .finish2 .ensures)
+    left-given (dialectTable (now (start .args .words))) (now (start .args .result)) (dialect-accepted (now (start .args .words)) (start .pre)) (tested .if1 .left) (wrote .write .kept .1 .0) (wrote .write .ensures) (c .before .before .finish2 .ensures)
 
 pub answer-spec : {M : Type 1} → statement M
 answer-spec =

@@ -14,7 +14,7 @@ use Rattle.table.specs.Steps.{isNormal}
 use Rattle.table.proofs.Stated.{permitted, limits-outside, limits-within}
 use Rattle.table.proofs.Normal.{normal-header}
 use Rattle.heading.proofs.Order.{whole-body, some-word}
-use Rattle.normal_form.specs.Forms.{Rewritable}
+use Rattle.rewritten_form.specs.Forms.{Rewritable}
 use Rattle.normal_form.proofs.Ends.{outside, table-refused, own, rewritable, rewritten}
 use Rattle.normal_form.proofs.form.Statement.{statement}
 use Rattle.normal_form.proofs.form.Tie as tie

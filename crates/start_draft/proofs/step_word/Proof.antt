@@ -5,7 +5,7 @@ use lib.Dec.{T}
 use denote.Ref.{now}
 use Rattle.source.specs.Source.{WordAt}
 use Rattle.automata_laws.specs.FormulaAutomaton.{isProper}
-use Rattle.state_numbers.specs.Kept.{wordOf}
+use Rattle.state_classes.specs.Kept.{wordOf}
 use Rattle.start_draft.specs.Filling.{Next}
 use Rattle.start_draft.proofs.Forms.{inside, numbered, constant-filled, junction-operands, junction-filled, letter-is, later-is, proper-filled}
 use Rattle.start_draft.proofs.step_word.Statement.{statement}

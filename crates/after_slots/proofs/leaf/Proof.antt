@@ -1,0 +1,18 @@
+use borrow.Author.Needs.{needs}
+use mathlib.Core.Path.{refl}
+use Rattle.after_slots.proofs.leaf.Statement.{statement}
+use Rattle.after_slots.proofs.leaf.Tie as tie
+
+returns : tie.Need-returns
+returns c = let last = c .before .before in rw (last .store2 .ensures, last .before .before .before .before .store .ensures) refl
+
+pub leaf-spec : {M : Type 1} → statement M
+leaf-spec =
+    tie.close
+    (tie.spec
+    -- the word's own slot
+    (λ c. search needs) (λ c κs. search needs)
+    -- that of its step
+    (λ c. search needs) (λ c. search needs) (λ c κs. search needs)
+    (λ c. search needs)
+    returns)

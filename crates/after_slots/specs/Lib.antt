@@ -1,0 +1,2 @@
+-- What the slots of a step by a sample are.
+pub mod Slots

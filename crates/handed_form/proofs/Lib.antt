@@ -1,0 +1,2 @@
+-- What the normal-form step hands back.
+pub mod Handed

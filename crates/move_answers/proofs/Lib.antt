@@ -1,0 +1,2 @@
+-- A move of accepted words, and what is answered.
+pub mod Given

@@ -1,2 +1,0 @@
--- What the promises about the normal-form step cite.
-pub mod Forms

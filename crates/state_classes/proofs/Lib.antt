@@ -1,0 +1,2 @@
+-- The laws of the classes of a word's states.
+pub mod Smallest

@@ -1,0 +1,2 @@
+-- The laws of states as they are written.
+pub mod Stating

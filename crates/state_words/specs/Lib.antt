@@ -1,0 +1,2 @@
+-- The states of words as words.
+pub mod Stated
