@@ -8,4 +8,3 @@ pub mod MoveModels
 pub mod Complete
 pub mod Examples
 pub mod Promise
-pub mod Bytes

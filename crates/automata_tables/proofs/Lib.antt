@@ -2,5 +2,4 @@
 pub mod Numbers
 pub mod States
 pub mod Promise
-pub mod Bases
 pub mod Examples

@@ -2,7 +2,7 @@
 use Prim.Native.Nat.{ℕ, zero, suc}
 use mathlib.Core.Bool.{Bool, false, cond, _&&_}
 use mathlib.Core.List.{List, [], _∷_, _++_, map}
-use lib.ListN.{length, getD, take}
+use lib.ListN.{getD}
 use lib.Dec.{eqb}
 use Rattle.logic.specs.Formula.{Formula, const, same}
 use Rattle.table.specs.Node.{pack}
@@ -25,10 +25,6 @@ wordsFrom j (φ ∷ φs) = map (stateWord j) (classesOf φ) ++ wordsFrom (suc j)
 
 unfoldable pub stateWords : List ℕ → List ℕ
 stateWords t = wordsFrom 1 (formulas t)
-
--- how many states the first i words have, so that those of the next word have the numbers after it
-abbrev pub statesBefore : List ℕ → ℕ → ℕ
-statesBefore t i = length (stateWords (take i t))
 
 -- the states themselves, in the same order
 unfoldable pub statesFrom : List Formula → List State

@@ -15,7 +15,7 @@ use Rattle.refusals.specs.declared.Refusal.{Refusal}
 use Rattle.refusals.specs.declared.Outcome.the-variants as outcome
 use Rattle.table.specs.declared.answer.Form.{Form}
 use Rattle.table.specs.declared.answer.Form.the-variants.{Source, Made, Refused}
-use Rattle.table.specs.declared.limits.Limits.{Limits}
+use Rattle.table.specs.declared.settings.Limits.{Limits}
 use Rattle.refusals.specs.Refusals.{first, numberOf}
 use Rattle.table.specs.Header.{headed, body, headedChecks, headedChecked}
 use Rattle.table.specs.Limits.{isPermitted, mostWords}

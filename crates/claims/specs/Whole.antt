@@ -6,7 +6,7 @@ use Rattle.table.specs.declared.answer.Answer.{Answer}
 use Rattle.table.specs.declared.answer.Answer.the-variants.{Made, Refused}
 use Rattle.table.specs.declared.answer.Form.{Form}
 use Rattle.table.specs.declared.answer.Form.the-variants as form
-use Rattle.table.specs.declared.limits.Limits.{Limits}
+use Rattle.table.specs.declared.settings.Limits.{Limits}
 use Rattle.table.specs.Header.{headed, body}
 use Rattle.table.specs.Steps.{plainTable}
 use Rattle.table.specs.Frame.{plainStep, normalStep, answerOf, resultOf, formOf}

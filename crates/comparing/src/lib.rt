@@ -14,7 +14,7 @@ use agreement::answer::Comparison;
 use lent_checks::check_recording;
 use refusals::Outcome;
 use refusals::Refusal;
-use row_words::word::ones;
+use row_words::row_word::ones;
 
 // The driven bits of a sample.
 fn driven_bits(driven: usize) -> u64

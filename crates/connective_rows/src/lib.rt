@@ -5,7 +5,7 @@ ghost use Rattle.logic.specs.Truth.{Sequence, across};
 ghost use Rattle.row_words.specs.Row as rows;
 ghost use Rattle.row_words.specs.Writing.{RowFor, joins};
 use row_words::connective::Connective;
-use row_words::word::filled;
+use row_words::row_word::filled;
 use word_steps::join;
 
 fn join_words(row: &mut [u64], op: Connective, a: &[u64], b: &[u64], positions: usize)

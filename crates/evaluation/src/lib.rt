@@ -18,7 +18,7 @@ use row_filling::fill_rows;
 use row_reading::count_held;
 use row_reading::first_failing;
 use row_reading::holds_at;
-use row_words::word::row_words;
+use row_words::row_word::row_words;
 use tally::Desk;
 use tally::Tally;
 

@@ -8,7 +8,7 @@ ghost use Rattle.claims.specs.Whole.{wholeForm, wholeResult};
 ghost use Rattle.replies.specs.Replies.{TableReply, FormReply};
 use replies::form_reply;
 use replies::table_reply;
-use table::limits::Limits;
+use table::settings::Limits;
 
 // The plain form of a written table, at the front of the result.
 pub fn plain(

@@ -9,7 +9,7 @@ use lib.ListN.{length, take}
 use lib.Seq.{take-all}
 use borrow.Author.Tests.{leb-true}
 use Rattle.refusals.specs.declared.Refusal.{Refusal}
-use Rattle.table.specs.declared.limits.Limits.{Limits}
+use Rattle.table.specs.declared.settings.Limits.{Limits}
 use Rattle.table.specs.declared.answer.Form.{Form}
 use Rattle.table.specs.declared.answer.Form.the-variants.{Source, Made, Refused}
 use Rattle.table.specs.Limits.{plainLimit}

@@ -1,7 +1,7 @@
 // The normal-form step that hands the form back, as a part of the slice that has it.
 use normal_form::form;
 use table::answer::Form;
-use table::limits::Limits;
+use table::settings::Limits;
 ghost use mathlib.Core.Path.{_≡_};
 ghost use lib.ListN.{length};
 ghost use Rattle.table.specs.Frame.{formOf, handed, formReport};

@@ -9,7 +9,7 @@ ghost use Rattle.judge_conditions.specs.Checks.{recordingChecks, scratchChecks,
 use letter_checks::check_letters;
 use refusals::Outcome;
 use refusals::Refusal;
-use row_words::word::row_words;
+use row_words::row_word::row_words;
 use tally::Desk;
 
 // 13 to 15, then 22.

@@ -1,5 +1,5 @@
 // The limits that a house states: whether each is within its range, and those of a desk.
-use table::limits::Limits;
+use table::settings::Limits;
 ghost use mathlib.Core.Path.{_≡_};
 ghost use Rattle.table.specs.Limits as limits;
 

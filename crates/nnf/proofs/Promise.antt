@@ -19,7 +19,7 @@ use Rattle.table.specs.Table.{formulas, formulaOf, formulaBy, rule}
 use Rattle.table.specs.Checks.{isOperand, checked}
 use Rattle.table.specs.Steps.{plainTable}
 use Rattle.table.specs.declared.answer.Answer.the-variants.{Made}
-use Rattle.table.specs.declared.limits.Limits.{Limits}
+use Rattle.table.specs.declared.settings.Limits.{Limits}
 use Rattle.refusals.specs.Refusals.{first}
 use Rattle.table.specs.Limits.{isPermitted}
 use Rattle.table.specs.Header.{headed, body, headedChecks, headedChecked}

@@ -12,7 +12,7 @@ use Rattle.refusals.specs.declared.Refusal.the-variants.{LimitsOutside}
 use Rattle.refusals.specs.declared.Outcome.the-variants as outcome
 use Rattle.table.specs.declared.answer.Answer.{Answer}
 use Rattle.table.specs.declared.answer.Answer.the-variants.{Refused}
-use Rattle.table.specs.declared.limits.Limits.{Limits}
+use Rattle.table.specs.declared.settings.Limits.{Limits}
 use Rattle.table.specs.Frame.{plainStep}
 use Rattle.table.proofs.Frame.{plain-early}
 use Rattle.table.proofs.Stated.{permitted, permitted-checks, outside-checks}

@@ -2,7 +2,7 @@
 use refusals::Outcome;
 use refusals::Refusal;
 use table::answer::Answer;
-use table::limits::Limits;
+use table::settings::Limits;
 ghost use mathlib.Core.Path.{_≡_};
 ghost use Prim.Native.Nat.{min};
 ghost use lib.ListN.{length};

@@ -9,7 +9,7 @@ use Rattle.refusals.specs.declared.Refusal.the-variants.{LimitsOutside}
 use Rattle.refusals.specs.declared.Outcome.the-variants as outcome
 use Rattle.table.specs.declared.answer.Form.{Form}
 use Rattle.table.specs.declared.answer.Form.the-variants as form
-use Rattle.table.specs.declared.limits.Limits.{Limits}
+use Rattle.table.specs.declared.settings.Limits.{Limits}
 use Rattle.refusals.specs.Refusals.{Check}
 use Rattle.table.specs.Limits.{isPermitted, plainLimit}
 use Rattle.table.specs.Header.{headed, body, headedChecks, headedChecked}

@@ -4,7 +4,7 @@ use refusals::Outcome;
 use refusals::Refusal;
 use rewritten_form::rewrite;
 use table::answer::Form;
-use table::limits::Limits;
+use table::settings::Limits;
 ghost use mathlib.Core.Path.{_≡_};
 ghost use lib.ListN.{length};
 ghost use Rattle.table.specs.Frame.{normalStep, resultOf, formOf};

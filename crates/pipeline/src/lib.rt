@@ -2,7 +2,7 @@
 // is the plain form, where it stands, if that is its own form.
 use table::answer::Answer;
 use table::answer::Form;
-use table::limits::Limits;
+use table::settings::Limits;
 ghost use Rattle.claims.specs.Claim.{Claim};
 
 pub fn form(limits: Limits, table: &[u32], plain: &mut [u32], form: &mut [u32]) -> Form

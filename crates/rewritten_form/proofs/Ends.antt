@@ -11,7 +11,7 @@ use Rattle.refusals.specs.declared.Refusal.the-variants.{TooManyFixpoints}
 use Rattle.table.specs.declared.answer.Answer.{Answer}
 use Rattle.table.specs.declared.answer.Answer.the-variants.{Made, Refused}
 use Rattle.table.specs.declared.answer.Form.the-variants as form
-use Rattle.table.specs.declared.limits.Limits.{Limits}
+use Rattle.table.specs.declared.settings.Limits.{Limits}
 use Rattle.refusals.specs.Refusals.{first}
 use Rattle.table.specs.Limits.{plainLimit}
 use Rattle.table.specs.Header.{headed, body}

@@ -2,7 +2,7 @@
 use refusals::Refusal;
 use table::answer::Answer;
 use table::answer::Form;
-use table::limits::Limits;
+use table::settings::Limits;
 ghost use Rattle.table.specs.Header.{headed};
 ghost use Rattle.table.specs.Steps.{normalTable};
 ghost use Rattle.heading.specs.Finished.{Given};

@@ -5,7 +5,7 @@ ghost use Rattle.table.specs.Header.{body};
 ghost use Rattle.judging.specs.Judging.{rowOutcome, scratchAfter};
 ghost use Rattle.replies.specs.Replies.{RowReply};
 use refusals::Outcome;
-use row_words::word::row_words;
+use row_words::row_word::row_words;
 
 // The row call: which part of the scratch is the rule's own row, by its first word and its length.
 pub fn row(

@@ -8,7 +8,7 @@ ghost use Rattle.row_filling.specs.Filling.{lassoOf, rowsThen, Fillable,
 use operand_rows::prepare;
 use operand_rows::write_word;
 use operators::operator::of_kind;
-use row_words::word::row_words;
+use row_words::row_word::row_words;
 
 // The word on the left: a word with one operand is read as having it on both sides.
 fn first_operand(word: u32) -> usize

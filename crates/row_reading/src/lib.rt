@@ -5,9 +5,9 @@ ghost use lib.ListN.{length};
 ghost use Rattle.logic.specs.Truth.{Sequence};
 ghost use Rattle.row_words.specs.Row as rows;
 ghost use Rattle.row_words.specs.Writing.{RowFor};
-use row_words::word::bit;
-use row_words::word::filled;
-use row_words::word::ones;
+use row_words::row_word::bit;
+use row_words::row_word::filled;
+use row_words::row_word::ones;
 
 // Whether the row holds at a position.
 pub fn holds_at(row: &[u64], i: usize) -> bool

@@ -5,8 +5,8 @@ ghost use lib.ListN.{length};
 ghost use Rattle.logic.specs.Truth.{Sequence, sweep};
 ghost use Rattle.row_words.specs.Row as rows;
 ghost use Rattle.row_words.specs.Writing.{RowFor};
-use row_words::word::filled;
-use row_words::word::ones;
+use row_words::row_word::filled;
+use row_words::row_word::ones;
 use word_steps::first;
 use word_steps::swept;
 

@@ -6,9 +6,9 @@ ghost use lib.ListN.{length};
 ghost use Rattle.logic.specs.Truth.{Sequence, sweep};
 ghost use Rattle.row_words.specs.Row as rows;
 ghost use Rattle.row_words.specs.Writing.{RowFor};
-use row_words::word::filled;
-use row_words::word::ones;
-use row_words::word::shift;
+use row_words::row_word::filled;
+use row_words::row_word::ones;
+use row_words::row_word::shift;
 
 // Whether the goal or the keep holds at every position: then a sweep with the carry holds at every one.
 pub fn everywhere(g: &[u64], p: &[u64], positions: usize) -> bool

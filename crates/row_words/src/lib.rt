@@ -1,3 +1,3 @@
 // Rows a word at a time: 64 positions in one number.
 pub mod connective;
-pub mod word;
+pub mod row_word;

@@ -6,11 +6,11 @@ ghost use lib.ListN.{length, getD};
 ghost use Rattle.logic.specs.Truth.{Sequence, shifted, looped};
 ghost use Rattle.row_words.specs.Row as rows;
 ghost use Rattle.row_words.specs.Writing.{RowFor, literal};
-use row_words::word::bit;
-use row_words::word::constant;
-use row_words::word::filled;
-use row_words::word::letters;
-use row_words::word::shift;
+use row_words::row_word::bit;
+use row_words::row_word::constant;
+use row_words::row_word::filled;
+use row_words::row_word::letters;
+use row_words::row_word::shift;
 
 pub fn write_constant(row: &mut [u64], positions: usize, value: bool)
     requires { ⌜ RowFor positions (now row) ⌝ }

@@ -5,7 +5,7 @@ ghost use Rattle.refusals.specs.Refusals.{outcomeNumber, outcomePlace};
 use judge_checks::checks::check_row;
 use refusals::Outcome;
 use row_filling::fill_rows;
-use row_words::word::row_words;
+use row_words::row_word::row_words;
 
 // The rows of the words alone, with no tally.
 pub fn fill(

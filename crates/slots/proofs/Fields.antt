@@ -4,14 +4,6 @@ use mathlib.Core.Path.{_≡_}
 use native.Mathlib.Omega.{arith}
 use Rattle.slots.specs.Slot.{kind, left, right, pack}
 
-pub left-lt : (s : ℕ) → left s < 2 ^ 20
-unfolding left
-left-lt s = omega arith
-
-pub right-lt : (s : ℕ) → right s < 2 ^ 20
-unfolding right
-right-lt s = omega arith
-
 pub kind-pack : (k l r : ℕ) → l < 2 ^ 20 → r < 2 ^ 20 → kind (pack k l r) ≡ k
 unfolding kind pack
 kind-pack k l r hl hr = omega arith
@@ -23,7 +15,3 @@ left-pack k l r hl hr = omega arith
 pub right-pack : (k l r : ℕ) → r < 2 ^ 20 → right (pack k l r) ≡ r
 unfolding right pack
 right-pack k l r hr = omega arith
-
-pub pack-lt : (k l r : ℕ) → k < 16 → l < 2 ^ 20 → r < 2 ^ 20 → pack k l r < 2 ^ 44
-unfolding pack
-pack-lt k l r hk hl hr = omega arith

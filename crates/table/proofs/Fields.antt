@@ -28,10 +28,6 @@ pub right-pack : (k l r : ℕ) → r < 2 ^ 14 → right (pack k l r) ≡ r
 unfolding right pack
 right-pack k l r hr = omega arith
 
-pub pack-lt : (k l r : ℕ) → k < 16 → l < 2 ^ 14 → r < 2 ^ 14 → pack k l r < 2 ^ 32
-unfolding pack
-pack-lt k l r hk hl hr = omega arith
-
 pub pack-fields : (w : ℕ) → pack (kind w) (left w) (right w) ≡ w
 unfolding kind left right pack
 pack-fields w = omega arith

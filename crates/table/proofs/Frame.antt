@@ -13,7 +13,7 @@ use Rattle.refusals.specs.declared.Refusal.the-variants.{ResultTooShort, Limits
 use Rattle.refusals.specs.declared.Outcome.{Outcome}
 use Rattle.refusals.specs.declared.Outcome.the-variants as outcome
 use Rattle.table.specs.declared.answer.Answer.the-variants.{Made, Refused}
-use Rattle.table.specs.declared.limits.Limits.{Limits}
+use Rattle.table.specs.declared.settings.Limits.{Limits}
 use Rattle.refusals.specs.Refusals.{first, decideBy, numberOf, outcomeNumber}
 use Rattle.table.specs.Limits.{isPermitted, plainLimit}
 use Rattle.table.specs.Header.{body, headedChecks, headedChecked}

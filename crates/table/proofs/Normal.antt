@@ -13,7 +13,7 @@ use Rattle.logic.specs.ClassByte.{classByte}
 use Rattle.logic.proofs.Hierarchy.ClassBit.{class-bit}
 use Rattle.refusals.specs.declared.Refusal.{Refusal}
 use Rattle.refusals.specs.declared.Outcome.the-variants.{Accepted}
-use Rattle.table.specs.declared.limits.Limits.{Limits}
+use Rattle.table.specs.declared.settings.Limits.{Limits}
 use Rattle.table.specs.declared.answer.Answer.{Answer}
 use Rattle.table.specs.declared.answer.Answer.the-variants.{Made, Refused}
 use Rattle.table.specs.declared.answer.Form.the-variants as form

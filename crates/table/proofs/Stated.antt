@@ -8,7 +8,7 @@ use borrow.Author.Tests.{leb-true}
 use Rattle.refusals.specs.declared.Refusal.the-variants.{LimitsOutside}
 use Rattle.refusals.specs.declared.Outcome.the-variants.{Accepted, Refused}
 use Rattle.refusals.specs.Refusals.{Check, first}
-use Rattle.table.specs.declared.limits.Limits.{Limits}
+use Rattle.table.specs.declared.settings.Limits.{Limits}
 use Rattle.table.specs.Limits.{most, isPermitted}
 use Rattle.table.specs.StepChecks.{limitChecks}
 

@@ -11,7 +11,7 @@ use Rattle.table.specs.declared.answer.Answer.{Answer}
 use Rattle.table.specs.declared.answer.Answer.the-variants.{Made, Refused}
 use Rattle.table.specs.declared.answer.Form.{Form}
 use Rattle.table.specs.declared.answer.Form.the-variants as form
-use Rattle.table.specs.declared.limits.Limits.{Limits}
+use Rattle.table.specs.declared.settings.Limits.{Limits}
 use Rattle.refusals.specs.Refusals.{Check, first, reportOf, outcomeReport, numberOf}
 use Rattle.table.specs.Limits.{plainLimit, mostWords}
 use Rattle.table.specs.Header.{headed, body, headedChecks}

@@ -9,7 +9,7 @@ use Rattle.refusals.specs.declared.Refusal.the-variants.{TooManyFixpoints, Resu
 use Rattle.refusals.specs.Refusals.{Check, _⇒_}
 use Rattle.table.specs.Node.{kind, right}
 use Rattle.table.specs.Checks.{isProposition, holdsRight}
-use Rattle.table.specs.declared.limits.Limits.{Limits}
+use Rattle.table.specs.declared.settings.Limits.{Limits}
 use Rattle.table.specs.Limits.{isPermitted, mostWords}
 
 -- kinds 8 to 11, the until-like words

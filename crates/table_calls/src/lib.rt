@@ -10,7 +10,7 @@ ghost use Rattle.text.specs.Text.{textStep};
 ghost use Rattle.replies.specs.Replies.{TableReply};
 use replies::reply;
 use replies::table_reply;
-use table::limits::Limits;
+use table::settings::Limits;
 
 pub fn check(table: &[u32], plain: bool, limit: usize, place: &mut usize) -> u32
     ensures { λ r. ⌜ r ≡ outcomeNumber (headedChecked plain limit (now (table .entry))) ⌝ }

@@ -15,7 +15,7 @@ use Rattle.refusals.specs.declared.Refusal.the-variants.{TooManyWords, ResultTo
 use Rattle.refusals.specs.declared.Outcome.the-variants as outcome
 use Rattle.table.specs.declared.answer.Answer.{Answer}
 use Rattle.table.specs.declared.answer.Answer.the-variants.{Made, Refused}
-use Rattle.table.specs.declared.limits.Limits.{Limits}
+use Rattle.table.specs.declared.settings.Limits.{Limits}
 use Rattle.table.specs.Limits.{isPermitted}
 use Rattle.refusals.specs.Refusals.{first, numberOf}
 use Rattle.table.specs.Numbering.{tableOf}

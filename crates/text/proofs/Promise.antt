@@ -14,7 +14,7 @@ use Rattle.refusals.specs.declared.Refusal.the-variants.{NotGrammar}
 use Rattle.refusals.specs.declared.Outcome.the-variants.{Accepted}
 use Rattle.table.specs.declared.answer.Answer.{Answer}
 use Rattle.table.specs.declared.answer.Answer.the-variants.{Made, Refused}
-use Rattle.table.specs.declared.limits.Limits.{Limits}
+use Rattle.table.specs.declared.settings.Limits.{Limits}
 use Rattle.table.specs.Limits.{isPermitted}
 use Rattle.table.specs.Checks.{checked}
 use Rattle.table.specs.Numbering.{tableOf}

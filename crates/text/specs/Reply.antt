@@ -8,7 +8,7 @@ use Rattle.logic.specs.Formula.{Formula}
 use Rattle.refusals.specs.declared.Refusal.the-variants.{TooManyWords, ResultTooShort, NotGrammar, TextTooLong, LimitsOutside}
 use Rattle.table.specs.declared.answer.Answer.{Answer}
 use Rattle.table.specs.declared.answer.Answer.the-variants.{Made, Refused}
-use Rattle.table.specs.declared.limits.Limits.{Limits}
+use Rattle.table.specs.declared.settings.Limits.{Limits}
 use Rattle.table.specs.Limits.{isPermitted}
 use Rattle.table.specs.Numbering.{tableOf}
 use Rattle.table.specs.Header.{headed}

@@ -6,7 +6,7 @@ use lib.ListN.{length}
 use lib.Dec.{ltb}
 use Rattle.logic.specs.Formula.{Formula}
 use Rattle.refusals.specs.declared.Refusal.the-variants.{TooManyWords, NotGrammar, TextTooLong}
-use Rattle.table.specs.declared.limits.Limits.{Limits}
+use Rattle.table.specs.declared.settings.Limits.{Limits}
 use Rattle.refusals.specs.Refusals.{_⇒_}
 use Rattle.table.specs.Numbering.{tableOf}
 use Rattle.table.specs.Header.{headed}

@@ -2,7 +2,7 @@
 use parsing::parse;
 use refusals::Refusal;
 use table::answer::Answer;
-use table::limits::Limits;
+use table::settings::Limits;
 ghost use mathlib.Core.Path.{_≡_};
 ghost use lib.ListN.{length};
 ghost use Rattle.table.specs.Frame.{answerOf, resultOf};

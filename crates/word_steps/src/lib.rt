@@ -6,7 +6,7 @@ ghost use Rattle.logic.specs.Truth.{Sequence, sweep, across};
 ghost use Rattle.row_words.specs.Row as rows;
 ghost use Rattle.row_words.specs.Writing.{joins};
 use row_words::connective::Connective;
-use row_words::word::ones;
+use row_words::row_word::ones;
 use std::num::wrapping_add_u64;
 
 // A connective at n positions at once.

@@ -7,7 +7,7 @@ use mathlib.Core.List.{List}
 use lib.ListN.{length}
 use denote.Ref.{now}
 use Rattle.refusals.specs.declared.Outcome.the-variants.{Accepted}
-use Rattle.table.specs.declared.limits.Limits.{Limits}
+use Rattle.table.specs.declared.settings.Limits.{Limits}
 use Rattle.table.specs.Limits.{isPermitted, plainLimit}
 use Rattle.table.specs.Header.{body, headedChecked}
 use Rattle.table.specs.Steps.{isNormal}

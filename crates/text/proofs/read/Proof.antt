@@ -9,7 +9,7 @@ use lib.ListN.{length}
 use lib.Seq.{length-take-le}
 use borrow.Author.Needs.{needs}
 use Rattle.logic.specs.Formula.{Formula}
-use Rattle.table.specs.declared.limits.Limits.{Limits}
+use Rattle.table.specs.declared.settings.Limits.{Limits}
 use Rattle.table.specs.Limits.{isPermitted}
 use Rattle.table.specs.Numbering.{tableOf}
 use Rattle.table.proofs.Stated.{permitted, limits-outside, limits-within}

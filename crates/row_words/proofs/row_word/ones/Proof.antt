@@ -2,8 +2,8 @@
 use native.Mathlib.Omega.{arith}
 use Rattle.row_words.proofs.Words.{shifted-ones}
 use borrow.Author.Needs.{needs}
-use Rattle.row_words.proofs.word.ones.Statement.{statement}
-use Rattle.row_words.proofs.word.ones.Tie as tie
+use Rattle.row_words.proofs.row_word.ones.Statement.{statement}
+use Rattle.row_words.proofs.row_word.ones.Tie as tie
 
 returns : tie.Need-returns
 returns c = shifted-ones (c .args .n) (omega arith)

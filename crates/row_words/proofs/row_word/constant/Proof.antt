@@ -1,8 +1,8 @@
 -- n ones, or none.
 use Rattle.row_words.proofs.Bits.{pack-ones, pack-zeros}
 use borrow.Author.Needs.{needs}
-use Rattle.row_words.proofs.word.constant.Statement.{statement}
-use Rattle.row_words.proofs.word.constant.Tie as tie
+use Rattle.row_words.proofs.row_word.constant.Statement.{statement}
+use Rattle.row_words.proofs.row_word.constant.Tie as tie
 
 returns : tie.Need-returns
 returns c i = rw (c .before .if1 .taken, c .ones .ensures) (pack-ones i _)

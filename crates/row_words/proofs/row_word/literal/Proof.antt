@@ -1,8 +1,8 @@
 -- The bit of the letter, or 1 less it.
 use Rattle.row_words.proofs.Words.{literal-held, literal-denied}
 use borrow.Author.Needs.{needs}
-use Rattle.row_words.proofs.word.literal.Statement.{statement}
-use Rattle.row_words.proofs.word.literal.Tie as tie
+use Rattle.row_words.proofs.row_word.literal.Statement.{statement}
+use Rattle.row_words.proofs.row_word.literal.Tie as tie
 
 returns : tie.Need-returns
 returns c =

@@ -1,8 +1,8 @@
 -- The rows' words by their definition.
 use borrow.Author.Needs.{needs}
 use mathlib.Core.Path.{refl}
-use Rattle.row_words.proofs.word.row_words.Statement.{statement}
-use Rattle.row_words.proofs.word.row_words.Tie as tie
+use Rattle.row_words.proofs.row_word.row_words.Statement.{statement}
+use Rattle.row_words.proofs.row_word.row_words.Tie as tie
 
 returns : tie.Need-returns
 returns c = refl

@@ -2,8 +2,8 @@
 use mathlib.Core.Path.{refl}
 use Rattle.logic.specs.Bit.{bit}
 use borrow.Author.Needs.{needs}
-use Rattle.row_words.proofs.word.bit.Statement.{statement}
-use Rattle.row_words.proofs.word.bit.Tie as tie
+use Rattle.row_words.proofs.row_word.bit.Statement.{statement}
+use Rattle.row_words.proofs.row_word.bit.Tie as tie
 
 returns : tie.Need-returns
 unfolding bit

@@ -3,8 +3,8 @@ use native.Mathlib.Nat.{mod-lt}
 use native.Mathlib.Omega.{arith}
 use Rattle.row_words.proofs.Words.{next-law}
 use borrow.Author.Needs.{needs}
-use Rattle.row_words.proofs.word.shift.Statement.{statement}
-use Rattle.row_words.proofs.word.shift.Tie as tie
+use Rattle.row_words.proofs.row_word.shift.Statement.{statement}
+use Rattle.row_words.proofs.row_word.shift.Tie as tie
 
 returns : tie.Need-returns
 returns c A i e =

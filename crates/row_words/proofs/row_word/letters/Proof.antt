@@ -10,8 +10,8 @@ use Rattle.row_words.specs.Row.{packBits}
 use Rattle.row_words.specs.Writing.{literal}
 use Rattle.row_words.proofs.Bits.{digit-lt}
 use Rattle.row_words.proofs.Words.{pack-none, pack-more, pack-room}
-use Rattle.row_words.proofs.word.letters.Statement.{statement}
-use Rattle.row_words.proofs.word.letters.Tie as tie
+use Rattle.row_words.proofs.row_word.letters.Statement.{statement}
+use Rattle.row_words.proofs.row_word.letters.Tie as tie
 
 -- the truth of the letter, or of its denial, in each sample
 abbrev truth : List ℕ → ℕ → Bool → ℕ → Bool
