@@ -1,2 +1,1 @@
--- How the step by a sample ends.
 pub mod Ends

@@ -1,20 +1,11 @@
 // The step by a sample: a plain table goes in, and the table of what remains of its rule comes out at the front of the result.
-use letter_checks::check_sample;
+use after_answers::answer;
+use after_checks::check;
 use refusals::Outcome;
 use table::answer::Answer;
 ghost use mathlib.Core.Path.{_≡_};
-ghost use mathlib.Core.Bool.{true};
-ghost use mathlib.Core.List.{_++_};
 ghost use lib.ListN.{length};
-ghost use Rattle.refusals.specs.declared.Outcome.the-variants as outcome;
-ghost use Rattle.refusals.specs.Refusals.{first};
-ghost use Rattle.table.specs.Checks.{checked};
 ghost use Rattle.table.specs.Frame.{afterStep, answerOf, resultOf};
-ghost use Rattle.table.specs.Header.{headed, body, headedChecks};
-ghost use Rattle.table.specs.StepChecks.{sampleChecks};
-ghost use Rattle.table.specs.Steps.{afterTable};
-ghost use Rattle.placing.specs.Written.{Written};
-ghost use Rattle.heading.specs.Finished.{Given};
 
 // The table's length, or why there is none.
 pub fn step(table: &[u32], sample: u32, driven: usize, result: &mut [u32]) -> Answer
@@ -25,46 +16,4 @@ pub fn step(table: &[u32], sample: u32, driven: usize, result: &mut [u32]) -> An
         Outcome::Refused(r) => Answer::Refused(r),
         Outcome::Accepted => answer(&table[1..], sample, result),
     }
-}
-
-// The checks of the table with its header, then 22 and 21 of its words.
-fn check(table: &[u32], driven: usize) -> Outcome
-    ensures { λ r. ⌜ r ≡ first (headedChecks true 16383 (now (table .entry)) ++ sampleChecks driven (body (now (table .entry)))) ⌝ }
-{
-    match heading::check(table, true, 16383) {
-        Outcome::Refused(r) => Outcome::Refused(r),
-        Outcome::Accepted => check_sample(&table[1..], driven),
-    }
-}
-
-// What remains of accepted words, under its header.
-fn answer(words: &[u32], sample: u32, result: &mut [u32]) -> Answer
-    requires { ⌜ checked true 16383 (now words) ≡ outcome.Accepted ⌝ }
-    ensures { λ r. ⌜ Given (headed (afterTable sample (now (words .entry)))) (now (result .entry)) (now (result .exit)) r ⌝ }
-{
-    if result.len() == 0 {
-        return heading::finish(result, 0);
-    }
-    let n = write(words, sample, &mut result[1..]);
-    heading::finish(result, n)
-}
-
-// The table at the front of the result, and its length; 0 where it does not fit. It has no more words than the draft has slots, so no
-// more of the result is lent. That the function calls itself also keeps the arrays of the rooms out of its frame: the compiler joins no
-// function with large arrays to one that calls itself.
-fn write(table: &[u32], sample: u32, result: &mut [u32]) -> usize
-    requires { ⌜ checked true 16383 (now table) ≡ outcome.Accepted ⌝ }
-    ensures { λ r. ⌜ Written (afterTable sample (now (table .entry))) (now (result .entry)) (now (result .exit)) r ⌝ }
-{
-    let slots = 3 * table.len() + 3;
-    if slots < result.len() {
-        return write(table, sample, &mut result[..slots]);
-    }
-    if table.len() <= 64 {
-        return after_rooms::of_64(table, sample, result);
-    }
-    if table.len() <= 512 {
-        return after_rooms::of_512(table, sample, result);
-    }
-    after_rooms::of_16383(table, sample, result)
 }

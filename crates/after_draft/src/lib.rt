@@ -1,9 +1,9 @@
 // The draft of a step by a sample, in one rising pass over a table's words.
-use after_slots::fixpoint;
 use after_slots::junction;
 use after_slots::leaf;
 use after_slots::next;
 use after_slots::reading;
+use fixpoint_slots::fixpoint;
 ghost use lib.ListN.{length};
 ghost use Rattle.after_draft.specs.Filling.{Room, Filled, Next};
 

@@ -1,5 +1,5 @@
 // The slots of a word and of its step by a sample, each folded as it is stored. Word j has the slots 3j, its own, 3j + 1, the inner word that the step of
-// U, W, R or M needs, and 3j + 2, its step.
+// U, W, R or M needs, and 3j + 2, its step. Those of U, W, R and M are `fixpoint_slots`.
 use slots::slot;
 ghost use Prim.Native.Nat.{_+_, _*_, _<_, _≤_};
 ghost use mathlib.Core.Path.{_≡_};
@@ -8,7 +8,7 @@ ghost use Rattle.slots.specs.Slot.{pack};
 ghost use Rattle.after_slots.specs.Slots as after;
 
 // A word's slot, folded over the slots so far.
-fn store(draft: &mut [u64], i: usize, kind: u32, left: usize, right: usize)
+pub fn store(draft: &mut [u64], i: usize, kind: u32, left: usize, right: usize)
     requires { ⌜ (i < length (now draft)) × (kind < 16) × (left < 1048576) × (right < 1048576) ⌝ }
     ensures { λ r. ⌜ now (draft .exit) ≡ after.stored (now (draft .entry)) i (pack kind left right) ⌝ }
 {
@@ -53,22 +53,4 @@ pub fn next(draft: &mut [u64], j: usize, right: usize)
 {
     store(&mut *draft, 3 * j, 7, 0, 3 * right);
     draft[3 * j + 2] = draft[3 * right];
-}
-
-// U and W: the inner kind is and, the outer one or; R and M: the other way round.
-pub fn fixpoint(
-    draft: &mut [u64],
-    j: usize,
-    kind: u32,
-    inner: u32,
-    outer: u32,
-    left: usize,
-    right: usize,
-)
-    requires { ⌜ (3 * j + 2 < length (now draft)) × (j < 16384) × (kind < 16) × (inner < 16) × (outer < 16) × (left < j) × (right < j) ⌝ }
-    ensures { λ r. ⌜ now (draft .exit) ≡ after.fixpointSlots (now (draft .entry)) j kind inner outer left right ⌝ }
-{
-    store(&mut *draft, 3 * j, kind, 3 * left, 3 * right);
-    store(&mut *draft, 3 * j + 1, inner, 3 * left + 2, 3 * j);
-    store(draft, 3 * j + 2, outer, 3 * right + 2, 3 * j + 1);
 }

@@ -19,7 +19,9 @@ use Rattle.heading.proofs.Order.{whole-body, some-word}
 use Rattle.automaton_steps.specs.Steps.{watchedChecks, askedChecks, moveStep}
 use Rattle.automaton_steps.proofs.States.{accepted-watched}
 use Rattle.automaton_steps.proofs.Moves.{asked-table, move-refused, move-unfit, move-made}
-use Rattle.move_answers.specs.Answered.{moveFits, Given, leftChecks, Answered}
+use Rattle.move_checks.specs.Left.{leftChecks}
+use Rattle.move_placing.specs.Placed.{moveFits}
+use Rattle.move_answers.specs.Answered.{Given, Answered}
 
 -- a table that passed: there is a header, and the part after it is accepted
 module _ (s : List ℕ) (ok : first (watchedChecks s) ≡ outcome.Accepted) where

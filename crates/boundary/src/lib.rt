@@ -50,7 +50,7 @@ pub extern "C" fn showrule_text(
         r (now (words .exit)) (now (place .exit)) ⌝ }
     ensures { λ r. ⌜ now (result .exit) ≡ resultOf (textStep (house written fixpoints)) (now (text .entry)) (now (result .entry)) ⌝ }
 {
-    table_calls::text(text, written, fixpoints, result, words, place)
+    text_call::text(text, written, fixpoints, result, words, place)
 }
 
 // The plain form of a written table, at the front of the result.
@@ -124,7 +124,7 @@ pub extern "C" fn showrule_dialect(
         r (now (words .exit)) (now (place .exit)) ⌝ }
     ensures { λ r. ⌜ now (result .exit) ≡ resultOf dialectStep (now (table .entry)) (now (result .entry)) ⌝ }
 {
-    table_calls::dialect(table, result, words, place)
+    step_calls::dialect(table, result, words, place)
 }
 
 // The table of what remains of a plain table's rule after a sample that drives the letters 1 to `driven`, at the front of the result.
@@ -142,7 +142,7 @@ pub extern "C" fn showrule_after(
         r (now (words .exit)) (now (place .exit)) ⌝ }
     ensures { λ r. ⌜ now (result .exit) ≡ resultOf (afterStep sample driven) (now (table .entry)) (now (result .entry)) ⌝ }
 {
-    table_calls::after(table, sample, driven, result, words, place)
+    step_calls::after(table, sample, driven, result, words, place)
 }
 
 // The states of the automaton that watches a plain table's rule, which is in Delta-2, at the front of the result.
@@ -271,8 +271,13 @@ pub extern "C" fn showrule_compare(
         (comparison (now (samples .entry)) start driven (now (others .entry)) «other_start» «other_driven»)
         r (now (same .exit)) (now (moment .exit)) (now (place .exit)) ⌝ }
 {
-    comparing::reply(
-        comparing::compare(samples, start, driven, others, other_start, other_driven),
+    comparison_call::compare(
+        samples,
+        start,
+        driven,
+        others,
+        other_start,
+        other_driven,
         same,
         moment,
         place,

@@ -1,7 +1,8 @@
-// What a call that makes words answered: the number and the place, how many words, and a sum over the whole slice that they were made in.
+// What a call answered: the number and the place, then its other numbers, and a sum over the whole slice that it wrote.
 use crate::show;
 use crate::sum;
 
+// Words that were made.
 pub fn words(number: u32, place: usize, words: usize, result: &[u32; 16400]) {
     show::answer(number, place);
     show::number(words);
@@ -14,13 +15,32 @@ pub fn plain(number: u32, place: usize, words: usize, result: &[u32; 520]) {
     sum::plain(result);
 }
 
-// Of a form: which slice it is in, before the sums.
+// A form: which slice it is in, before the sums.
 pub fn form(number: u32, place: usize, words: usize, own: bool) {
     show::answer(number, place);
     show::number(words);
-    if own {
-        show::text(b", source");
-    } else {
-        show::text(b", result");
-    }
+    show::one_of(own, b", source", b", result");
+}
+
+// A judgement, before its tally.
+pub fn judgement(number: u32, place: usize, holds: bool, moments: usize, failing: usize) {
+    show::answer(number, place);
+    show::one_of(holds, b", holds", b", fails");
+    show::number(moments);
+    show::number(failing);
+}
+
+// The row of a rule.
+pub fn row(number: u32, place: usize, from: usize, words: usize, scratch: &[u64; 2100]) {
+    show::answer(number, place);
+    show::number(from);
+    show::number(words);
+    sum::scratch(scratch);
+}
+
+// Two recordings held against each other.
+pub fn comparison(number: u32, place: usize, same: bool, moment: usize) {
+    show::answer(number, place);
+    show::one_of(same, b", same", b", not the same");
+    show::number(moment);
 }

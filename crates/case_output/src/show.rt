@@ -3,6 +3,15 @@ pub fn text(s: &[u8]) {
     io::write_all(1, s);
 }
 
+// The first if it is so, else the second.
+pub fn one_of(so: bool, yes: &[u8], no: &[u8]) {
+    if so {
+        text(yes);
+    } else {
+        text(no);
+    }
+}
+
 pub fn number(n: usize) {
     text(b", ");
     io::print_decimal(1, n as u64);

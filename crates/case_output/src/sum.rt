@@ -7,32 +7,41 @@ fn wide_word(w: u32) -> u64 {
     w as u64
 }
 
-pub fn of_words(s: &[u32]) -> u32 {
+// The sum x and one element more.
+fn added(x: u64, element: u64) -> u64 {
+    (x % 4294967296 * 31 + element % 4294967296) % 4294967296
+}
+
+// A word of a row as an element: both its halves.
+fn halves(w: u64) -> u64 {
+    w % 4294967296 * 3 + w / 4294967296
+}
+
+fn of_words(s: &[u32]) -> u32 {
     let mut x: u64 = 0;
     let mut i: usize = 0;
     while i < s.len() {
-        x = (x % 4294967296 * 31 + wide_word(s[i]) % 4294967296) % 4294967296;
+        x = added(x, wide_word(s[i]));
         i += 1;
     }
     (x % 4294967296) as u32
 }
 
-pub fn of_bytes(s: &[u8]) -> u32 {
+fn of_bytes(s: &[u8]) -> u32 {
     let mut x: u64 = 0;
     let mut i: usize = 0;
     while i < s.len() {
-        x = (x % 4294967296 * 31 + wide(s[i]) % 256) % 4294967296;
+        x = added(x, wide(s[i]));
         i += 1;
     }
     (x % 4294967296) as u32
 }
 
-pub fn of_rows(s: &[u64]) -> u32 {
+fn of_rows(s: &[u64]) -> u32 {
     let mut x: u64 = 0;
     let mut i: usize = 0;
     while i < s.len() {
-        x = (x % 4294967296 * 31 + s[i] % 4294967296 * 3 + s[i] / 4294967296 % 4294967296)
-            % 4294967296;
+        x = added(x, halves(s[i]));
         i += 1;
     }
     (x % 4294967296) as u32

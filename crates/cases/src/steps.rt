@@ -1,35 +1,45 @@
 // One case: the call that it names.
-use case_input::input;
-use case_input::input::Case;
+use crate::judge_steps;
+use crate::table_steps;
+use case_input::Case;
 use case_output::show;
+use tally::Tally;
 
+fn tally_of(c: Case) -> Tally {
+    Tally {
+        judged: c.judged,
+        held: c.held,
+    }
+}
+
+// What a number stands in place of, in some steps, is said with Case.
 fn call<'t>(c: Case, table: &'t [u32], samples: &'t [u32]) {
     let step = c.step;
     match step {
-        1 => case_forms::check(c, table),
-        2 => case_forms::classify(c, table),
-        3 => case_forms::plain(c, table),
-        4 => case_forms::normal(c, table),
-        5 => case_forms::form(c, table),
-        6 => case_judge::judge(c, table, samples),
-        7 => case_judge::row(c, table, samples),
-        8 => case_forms::text(c, table),
-        9 => case_forms::dialect(c, table),
-        11 => case_forms::after(c, table),
-        12 => case_forms::states(c, table),
-        13 => case_forms::moves(c, table),
-        _ => case_judge::compare(c, table, samples),
+        1 => table_steps::check(table, c.plain, c.limit),
+        2 => table_steps::classify(table, c.room),
+        3 => table_steps::plain(table, c.written, c.fixpoints, c.room),
+        4 => table_steps::normal(table, c.written, c.fixpoints, c.room),
+        5 => table_steps::form(table, c.written, c.fixpoints, c.room, c.second),
+        6 => judge_steps::judge(
+            table,
+            samples,
+            c.start,
+            c.driven,
+            c.room,
+            c.desks,
+            c.desk,
+            tally_of(c),
+        ),
+        7 => judge_steps::row(table, samples, c.start, c.driven, c.room),
+        8 => table_steps::text(table, c.written, c.fixpoints, c.room),
+        9 => table_steps::dialect(table, c.room),
+        11 => table_steps::after(table, c.judged, c.driven, c.room),
+        12 => table_steps::states(table, c.room),
+        13 => table_steps::moves(table, c.desk, c.judged, c.driven, c.room),
+        _ => judge_steps::compare(table, c.room, c.second, samples, c.start, c.driven),
     }
     show::end();
-}
-
-// The call on the first n samples.
-fn on_samples<'t>(c: Case, table: &'t [u32], samples: &'t [u32; 4100]) {
-    let all: &[u32] = samples;
-    let n = c.samples;
-    if n <= all.len() {
-        call(c, table, &all[0..n]);
-    }
 }
 
 // The samples of a case, and its call; whether the input had so many words.
@@ -39,23 +49,9 @@ fn recorded(c: Case, table: &[u32]) -> bool {
     if 4100 < n {
         return false;
     }
-    let mut there = true;
-    if c.seed == 0 {
-        there = input::words(&mut samples[0..n]);
-    } else {
-        input::record(&mut samples, c.seed);
-    }
-    on_samples(c, table, &samples);
+    let there = case_input::samples(&mut samples, n, c.seed);
+    call(c, table, &samples[0..n]);
     there
-}
-
-// The call on the first n words.
-fn on_table(c: Case, table: &[u32; 16400], n: usize) -> bool {
-    let all: &[u32] = table;
-    if n <= all.len() {
-        return recorded(c, &all[0..n]);
-    }
-    false
 }
 
 // The table of a case, and its call; whether the input had so many words.
@@ -70,13 +66,13 @@ fn tabled(c: Case) -> bool {
         return false;
     }
     let to = from + n;
-    let there = input::table(&mut table, from, to, c.replaced, c.word);
-    there && on_table(c, &table, to)
+    let there = case_input::table(&mut table, from, to, c.replaced, c.word);
+    there && recorded(c, &table[0..to])
 }
 
 // The next case; whether there was one.
 pub fn one() -> bool {
     let mut head = [0u32; 19];
-    let there = input::words(&mut head);
-    there && tabled(input::case_of(head))
+    let there = case_input::words(&mut head);
+    there && tabled(case_input::case_of(&head))
 }

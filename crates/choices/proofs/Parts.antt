@@ -8,6 +8,7 @@ use lib.ListN.{length, getD}
 use lib.Count.{ones}
 use borrow.Author.Tests.{ne-eqb, eq-eqb}
 use Rattle.logic.specs.Formula.{Formula, const, lit, un, bin, disj}
+use Rattle.logic.specs.NormalForm.{chosenIn}
 use Rattle.logic.specs.Folding.{foldBinary}
 use Rattle.slots.specs.Slot.{kind}
 use Rattle.draft.specs.Drafted.{Drafted}
@@ -21,7 +22,7 @@ use Rattle.sums.specs.declared.Sum.{Sum}
 use Rattle.sums.specs.declared.Sum.the-variants.{Nothing, Full, At}
 use Rattle.sums.specs.Summed.{Standing, Small, Summed, Grown}
 use Rattle.sums.proofs.Growth.{or-false, join-full}
-use Rattle.choices.specs.Joining.{joined, chosenIn, Untrue, Joinable}
+use Rattle.choices.specs.Joining.{joined, Untrue, Joinable}
 
 pub grown-same : (g : Formula → Formula) {s : State} {a : Sum} → Numbered s → Small a → ((χ : Formula) → χ ≡ g χ) → Grown g s s a a
 grown-same g {s} {a} h l e = record { numbered = h; small = l; sums = λ s₀ χ p. subst (λ (φ : Formula). Summed s₀ s φ a) (e χ) p }

@@ -4,10 +4,7 @@ use mathlib.Core.Path.{_≡_}
 use mathlib.Core.Bool.{true}
 use mathlib.Core.List.{List, map, foldl}
 use lib.ListN.{length}
-use lib.Count.{ones}
-use lib.Dec.{eqb}
 use Rattle.logic.specs.Formula.{Formula, const, disj}
-use Rattle.logic.specs.NormalForm.{keep}
 use Rattle.logic.specs.Folding.{foldBinary}
 use Rattle.placing.specs.State.{State, Numbered}
 use Rattle.parts.specs.Parts.{foldedPart, Ready}
@@ -15,10 +12,6 @@ use Rattle.parts.specs.Parts.{foldedPart, Ready}
 -- a formula, and the folded parts of choices, from the left
 abbrev pub joined : List ℕ → List ℕ → Formula → Formula
 joined t cs χ = foldl (foldBinary disj) χ (map (foldedPart t) cs)
-
--- the choices of a list with so many chosen words
-abbrev pub chosenIn : List ℕ → ℕ → List ℕ
-chosenIn cs n = keep (λ c. eqb (ones c) n) cs
 
 -- the part of a choice does not fold to true
 abbrev pub Untrue : List ℕ → ℕ → Type 0

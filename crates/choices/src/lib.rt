@@ -7,11 +7,11 @@ ghost use mathlib.Core.Bool.{false};
 ghost use mathlib.Core.List.{[], _∷_};
 ghost use lib.ListN.{length};
 ghost use Rattle.logic.specs.Formula.{const};
-ghost use Rattle.logic.specs.NormalForm.{below, choices};
+ghost use Rattle.logic.specs.NormalForm.{below, chosenIn, choices};
 ghost use Rattle.placing.specs.State.{state};
 ghost use Rattle.filling.specs.Filled.{Laid};
 ghost use Rattle.sums.specs.Summed.{Small, Summed, Grown};
-ghost use Rattle.choices.specs.Joining.{joined, chosenIn, Untrue, Joinable};
+ghost use Rattle.choices.specs.Joining.{joined, Untrue, Joinable};
 
 // The sum with the part of the choice joined to it, if the choice has so many chosen words. A part that folds to false adds nothing.
 pub fn with_part(

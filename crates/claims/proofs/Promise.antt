@@ -38,7 +38,7 @@ use Rattle.table.proofs.Header.{accepted-headed, headed-accepted}
 use Rattle.numbering.proofs.Driven.{driven-exactly}
 use Rattle.table.proofs.Frame.{answered, refused-for-length, refused-answer, too-long-answer, made-answer, plain-early, normal-early}
 use Rattle.table.proofs.Normal.{normal-exactly, own-form, other-form, own-makes, other-checks, other-makes, form-checked, form-source, form-made, form-refused}
-use Rattle.nnf.proofs.Promise.{plain-holds, plain-accepted, plain-letters}
+use Rattle.plain_laws.proofs.Promise.{plain-holds, plain-accepted, plain-letters}
 use Rattle.normal_laws.proofs.Promise.{normal-holds, normal-Δ₂, normal-length, normal-letters}
 use Rattle.claims.specs.Whole.{formAfter, wholeForm, resultAfter, wholeResult}
 use Rattle.claims.specs.Claim.{bound, Kept, TooLong, Claim}

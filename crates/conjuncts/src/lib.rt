@@ -80,7 +80,7 @@ pub fn conjuncts(
     let mut i = 0;
     while i < table.len() {
         if is(fixpoint, table[i]) {
-            if fixpoints::chosen(positions, choice, i + 1) {
+            if choice_bits::chosen(positions, choice, i + 1) {
                 next = conjoin(fixpoint, i + 1, draft, next);
             }
         }

@@ -1,6 +1,4 @@
-// A text without its line end, and what is left of the input.
-ghost use Prim.Native.Nat.{_≤_};
-ghost use lib.ListN.{length};
+// What is left of the input.
 
 // One more piece of the input, and whether there was any: how many bytes it has beyond whole words.
 fn piece(odd: &mut usize) -> bool {
@@ -19,24 +17,4 @@ pub fn rest() -> usize {
         turns -= 1;
     }
     odd
-}
-
-// How many bytes of a text are left without its final line end.
-pub fn without_line_end(text: &[u8]) -> usize
-    ensures { λ r. ⌜ r ≤ length (now (text .entry)) ⌝ }
-{
-    let n = text.len();
-    if n == 0 {
-        return 0;
-    }
-    if text[n - 1] != b'\n' {
-        return n;
-    }
-    if n == 1 {
-        return 0;
-    }
-    if text[n - 2] != b'\r' {
-        return n - 1;
-    }
-    n - 2
 }

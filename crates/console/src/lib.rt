@@ -1,4 +1,3 @@
-// What the program is given, its arguments and its input, and a text as a terminal shows it.
+// What the program is given: its arguments and its input.
 pub mod argument;
 pub mod input;
-pub mod terminal;

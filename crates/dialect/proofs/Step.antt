@@ -1,10 +1,9 @@
--- The conversion numbered into the part of a slice that is lent, and how the step ends.
-use Prim.Native.Nat.{ℕ, _+_, _-_, _*_, _<_, min}
-use native.Mathlib.Omega.{arith}
+-- How the step ends.
+use Prim.Native.Nat.{ℕ, _-_}
 use mathlib.Core.Path.{_≡_}
 use mathlib.Core.Bool.{true}
-use mathlib.Core.List.{List, _++_}
-use lib.ListN.{length, take, drop}
+use mathlib.Core.List.{List}
+use lib.ListN.{length, take}
 use Rattle.refusals.specs.declared.Refusal.{Refusal}
 use Rattle.refusals.specs.declared.Outcome.the-variants as outcome
 use Rattle.table.specs.declared.answer.Answer.{Answer}
@@ -15,19 +14,11 @@ use Rattle.table.specs.Checks.{checked}
 use Rattle.table.specs.Header.{headed, body, headedChecked}
 use Rattle.table.specs.Steps.{dialectTable}
 use Rattle.table.proofs.Header.{accepted-headed}
-use Rattle.placing.specs.Written.{Written, Ends}
+use Rattle.placing.specs.Written.{Ends}
 use Rattle.placing.proofs.Written as writing
 use Rattle.heading.specs.Finished.{Given}
 use Rattle.heading.proofs.Ends.{given-ends}
 use Rattle.heading.proofs.Order.{whole-body}
-use Rattle.dialect_laws.proofs.Length.{dialect-short}
-
--- the part of a longer slice that is lent serves as the whole
-pub written-part : (t out : List ℕ) {part : List ℕ} {n : ℕ} → checked true 16383 t ≡ outcome.Accepted → 2 * length t + 2 < length out
-    → Written (dialectTable t) (take (2 * length t + 2) out) part n → Written (dialectTable t) out (part ++ drop (2 * length t + 2) out) n
-written-part t out ok h q =
-    let whole : 2 * length t + 2 ≡ min (length out) (2 * length t + 2) = omega arith in
-    writing.written-part (dialectTable t) out (dialect-short t ok) whole q
 
 -- the part of an accepted table that stands after its header
 pub words-accepted : (s : List ℕ) → headedChecked true 16383 s ≡ outcome.Accepted → checked true 16383 (take (length s - 1) (body s)) ≡ outcome.Accepted

@@ -1,4 +1,2 @@
--- The laws of a conversion while its draft is filled.
-pub mod Shapes
-pub mod Forms
+-- The letters of a conversion.
 pub mod Letters

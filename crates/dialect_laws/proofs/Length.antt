@@ -12,13 +12,12 @@ use Rattle.table.specs.Table.{rule}
 use Rattle.table.specs.Checks.{checked}
 use Rattle.table.specs.Steps.{dialectTable}
 use Rattle.table.proofs.Accepted.{accepted-well-formed}
-use Rattle.slots.specs.Slot.{pack}
 use Rattle.draft.specs.Drafted.{Drafted}
 use Rattle.draft.proofs.Growth.{drafted-length}
 use Rattle.source.specs.Source.{WordAt}
-use Rattle.dialect_draft.specs.Filling.{slotOf, Room, Filled, Next}
+use Rattle.dialect_slots.specs.Filling.{slotOf, Room, Filled, Next}
 use Rattle.source.proofs.Words.{plain-kind, word-at}
-use Rattle.dialect_draft.proofs.Forms.{plain-at, leaf-filled, next-filled, weak-filled, strong-filled, kept-filled, none-filled, next-word}
+use Rattle.dialect_slots.proofs.Forms.{plain-at, Ready, leaf-ready, next-ready, weak-ready, strong-ready, kept-ready, none-filled, next-word}
 
 -- a draft as long as another, with the first j words
 abbrev Filling : List ℕ → List ℕ → ℕ → Type 0
@@ -28,19 +27,16 @@ Filling t d j = (e : List ℕ) × (length e ≡ length d) × Filled t e j
 word-filling : {t d : List ℕ} {j k l r : ℕ} → Next t d j → WordAt t j k l r → Filling t d j
 word-filling {t} {d} {j} {k} {l} {r} q w = go (decLt k 5) (ℕ-discrete k 7) (ℕ-discrete k 9) (ℕ-discrete k 11)
   where
-    two : (x y : ℕ) → length (set (set d (2 * j) x) (slotOf j) y) ≡ length d
-    two x y = length-set (set d (2 * j) x) (slotOf j) y ∙ length-set d (2 * j) x
+    filling : {e : List ℕ} {s : ℕ} → Ready t d e j s → Filling t d j
+    filling {e} {s} f = (set e (slotOf j) s, length-set e (slotOf j) s ∙ f .long, f .filled)
 
     go : Dec (k < 5) → Dec (k ≡ 7) → Dec (k ≡ 9) → Dec (k ≡ 11) → Filling t d j
-    go (yes h) b c e = (set d (slotOf j) (pack k 0 r), length-set d _ _, leaf-filled q w h refl)
-    go (no h) (yes b) c e = (set d (slotOf j) (pack 7 0 (slotOf r)), length-set d _ _, next-filled q w b refl)
-    go (no h) (no b) (yes c) e = (set (set d (2 * j) (pack 6 (slotOf l) (slotOf r))) (slotOf j) (pack 10 (slotOf r) (2 * j)), two _ _, weak-filled q w c refl refl)
-    go (no h) (no b) (no c) (yes e) = (set (set d (2 * j) (pack 5 (slotOf l) (slotOf r))) (slotOf j) (pack 8 (slotOf r) (2 * j)), two _ _, strong-filled q w e refl refl)
-    go (no h) (no b) (no c) (no e) = (
-      set d (slotOf j) (pack k (slotOf l) (slotOf r)),
-      length-set d _ _,
-      kept-filled q w (record { above = omega arith; plain = plain-at q w; no-next = b; no-weak = c; no-strong = e }) refl,
-    )
+    go (yes h) b c e = filling (leaf-ready q w h refl refl)
+    go (no h) (yes b) c e = filling (next-ready q w b refl refl)
+    go (no h) (no b) (yes c) e = filling (weak-ready q w c refl refl refl)
+    go (no h) (no b) (no c) (yes e) = filling (strong-ready q w e refl refl refl)
+    go (no h) (no b) (no c) (no e) =
+        filling (kept-ready q w (record { above = omega arith; plain = plain-at q w; no-next = b; no-weak = c; no-strong = e }) refl refl)
 
 module _ (t : List ℕ) (ok : checked true 16383 t ≡ Accepted) where
   words-filling : (d : List ℕ) → Room t d → (n : ℕ) → n ≤ length t → Filling t d n

@@ -15,7 +15,7 @@ use Rattle.placing.specs.State.{state}
 use Rattle.draft.specs.Drafted.{Drafted}
 use Rattle.draft.specs.Numberable.{Fresh}
 use Rattle.draft.proofs.Fresh.{fresh}
-use Rattle.dialect_draft.specs.Filling.{Room, Filled}
+use Rattle.dialect_slots.specs.Filling.{Room, Filled}
 use Rattle.dialect_rooms.specs.Rooms.{Asked}
 
 -- a room of n slots for the words of a table, and an index of m numbers

@@ -1,7 +1,7 @@
 // A draft, numbers, a stack and an index of the size that the table can need: short tables pay for no more.
 use draft::number;
 ghost use Rattle.placing.specs.State.{state};
-ghost use Rattle.dialect_draft.specs.Filling.{Room};
+ghost use Rattle.dialect_slots.specs.Filling.{Room};
 ghost use Rattle.placing.specs.Written.{Written};
 ghost use Rattle.table.specs.Steps.{dialectTable};
 ghost use Rattle.draft.specs.Numberable.{Fresh};

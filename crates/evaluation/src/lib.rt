@@ -2,45 +2,20 @@
 ghost use mathlib.Core.Path.{_≡_};
 ghost use mathlib.Core.Bool.{false};
 ghost use Prim.Native.Nat.{ℕ, _≤_};
-ghost use Rattle.row_words.specs.Writing.{RowFor};
-ghost use Rattle.row_words.specs.Row as rows;
-ghost use Rattle.logic.specs.Truth.{Sequence};
 ghost use Rattle.refusals.specs.declared.Outcome.the-variants.{Accepted};
 ghost use Rattle.table.specs.Table.{formulas, rule};
 ghost use Rattle.row_filling.specs.Filling.{Fillable, lassoOf, rowsThen};
-ghost use Rattle.judging.specs.Judging.{judgeOutcome, judgement, replyBy, reply, scratchAfter};
-ghost use Rattle.tally.specs.Tallies.{isFull, tallyAfter};
+ghost use Rattle.judging.specs.Judging.{judgeOutcome, replyBy, reply, scratchAfter};
+ghost use Rattle.tally.specs.Tallies.{isFull};
 use judge_checks::checks::check_judge;
 use judging::answer::Judged;
 use judging::answer::Judgement;
 use refusals::Outcome;
+use row_answers::read_answer;
 use row_filling::fill_rows;
-use row_reading::count_held;
-use row_reading::first_failing;
-use row_reading::holds_at;
 use row_words::row_word::row_words;
 use tally::Desk;
 use tally::Tally;
-
-// The answer off the rule's row, and the tally after it.
-fn read_answer(row: &[u64], positions: usize, tally: Tally) -> Judged
-    requires { ⌜ RowFor positions (now row) ⌝ }
-    ensures { λ r. ⌜ ((f : Sequence) → now (row .entry) ≡ rows.row positions f → (r .answer ≡ judgement f positions) × (r .tally ≡ tallyAfter tally (f 0))) ⌝ }
-{
-    let holds = holds_at(row, 0);
-    let moments = count_held(row);
-    let failing = first_failing(row, positions);
-    let answer = Judgement::Judged {
-        holds,
-        moments,
-        failing,
-    };
-    let after = tally.after(holds);
-    Judged {
-        answer,
-        tally: after,
-    }
-}
 
 // A judgement that the checks accept, of the words after the table's header, for whatever driven count they do.
 fn judge_accepted(

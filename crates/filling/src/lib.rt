@@ -31,7 +31,7 @@ pub fn choose_words(table: &[u32], positions: &[u8], choice: u32, draft: &mut [u
     let mut i = 0;
     while i < table.len() {
         if fixpoints::is_fixpoint(table[i]) {
-            let chosen = fixpoints::chosen(positions, choice, i + 1);
+            let chosen = choice_bits::chosen(positions, choice, i + 1);
             word_slots::choose_word(table[i], i + 1, chosen, draft);
         }
         i += 1;

@@ -5,12 +5,10 @@ use mathlib.Core.Bool.{true}
 use mathlib.Core.List.{List}
 use lib.ListN.{length, getD, take}
 use Rattle.logic.specs.NormalForm.{keep}
-use Rattle.refusals.specs.declared.Refusal.the-variants.{TooManyFixpoints}
-use Rattle.refusals.specs.declared.Outcome.the-variants.{Accepted, Refused}
-use Rattle.refusals.specs.Refusals.{first}
+use Rattle.refusals.specs.declared.Outcome.the-variants.{Accepted}
 use Rattle.table.specs.Checks.{checked}
 use Rattle.table.specs.Steps.{fixpoints}
-use Rattle.table.specs.StepChecks.{isFixpointWord, fixpointChecks}
+use Rattle.table.specs.StepChecks.{isFixpointWord}
 
 -- document 01: "Number the until-like words of the plain table from bit 0 upward, in rising word number."
 -- The bit number of the word with i words before it: how many of those are until-like
@@ -29,8 +27,3 @@ pub record Kept (t positions : List ℕ) (n : ℕ) : Type 0 where
   pub long : length t < length positions
   pub few : bitOf t n < 32
   pub position : (i : ℕ) → i < n → getD positions (suc i) 0 ≡ bitOf t i
-
--- the place of the first until-like word past the limit, by which a table is refused; 0: there is none
-pub record Past (t : List ℕ) (limit r : ℕ) : Type 0 where
-  pub few : r ≡ 0 → first (fixpointChecks limit 1 t) ≡ Accepted
-  pub many : 0 < r → first (fixpointChecks limit 1 t) ≡ Refused (TooManyFixpoints r)

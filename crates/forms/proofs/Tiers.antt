@@ -1,18 +1,16 @@
 -- A form that is written to a part of a slice that is as long as the form can need.
-use Prim.Native.Nat.{ℕ, _+_, _*_, _-_, _%_, _^_, _≤_, _<_, min}
+use Prim.Native.Nat.{ℕ, _+_, _*_, _≤_, _<_, min}
 use native.Mathlib.Omega.{arith}
-use native.Mathlib.Nat.{mul-le-mul}
 use mathlib.Core.Path.{_≡_, ap, _∙_}
 use mathlib.Core.Bool.{true}
 use mathlib.Core.List.{List, _++_}
 use lib.ListN.{length, take, drop}
-use lib.Pow.{pow-mono, shl-exact}
 use Rattle.table.specs.Steps.{fixpoints, normalTable}
 use Rattle.table.proofs.Accepted.{accepted-well-formed}
 use Rattle.placing.specs.Written.{Written}
 use Rattle.placing.proofs.Written.{written-part}
 use Rattle.form_rooms.specs.Rooms.{positionsLength, mostSlots, Positioned, Sized}
-use Rattle.forms.specs.Forms.{mostWords}
+use Rattle.form_lengths.specs.Lengths.{mostWords}
 use Rattle.normal_laws.proofs.Promise.{normal-length}
 
 -- with the positions of a table's until-like words
@@ -37,14 +35,3 @@ module _ {t positions : List ℕ} {bits : ℕ} (q : Positioned t positions bits)
 
   pub any-sized : {out : List ℕ} → Positioned t positions bits × Sized t mostSlots out 16383
   any-sized = (q, record { few-slots = q .table .drafted; few-words = omega arith })
-
--- the count of those words, as it is computed
-module _ (n k : ℕ) (h : (n < 16384) × (k < 32)) where
-  pub power : (1 * 2 ^ k) % 2 ^ 64 ≡ 2 ^ k
-  power = shl-exact 1 k 64 (omega arith) (omega arith) ∙ omega arith
-
-  pub product : (1 * 2 ^ k) % 2 ^ 64 * (5 * n + 3 * k + 1) ≤ 2 ^ 48
-  product =
-      let a : 2 ^ k ≤ 2 ^ 31 = pow-mono {i = k} {j = 31} (omega arith) in
-      let b : 5 * n + 3 * k + 1 ≤ 2 ^ 17 = omega arith in
-      rw power (omega (arith, mul-le-mul a b))

@@ -1,23 +1,11 @@
 // The form in as much of the result as it can need, with an index and a draft of the size that it can need.
-ghost use Prim.Native.Nat.{_+_, _*_, _<_, min};
-ghost use mathlib.Core.Path.{_≡_};
+use form_lengths::words;
 ghost use Rattle.table.specs.Steps.{normalTable};
 ghost use Rattle.placing.specs.Written.{Written};
 ghost use Rattle.form_rooms.specs.Rooms.{Accepted, Positioned};
-ghost use Rattle.forms.specs.Forms.{mostWords};
 
 // A position for each word of a plain table, by its number.
 const POSITIONS: usize = 515;
-
-// As many words as the form of n words, of which so many are until-like, can have, but no more than there is room for.
-pub fn words(n: usize, bits: u32, room: usize) -> usize
-    requires { ⌜ (n < 16384) × (bits < 32) ⌝ }
-    ensures { λ r. ⌜ r ≡ min (mostWords n bits) room ⌝ }
-{
-    let k = bits as usize;
-    let most = (1 << k) * (5 * n + 3 * k + 1) + 2;
-    if most < room { most } else { room }
-}
 
 // The number of words of the form, which stand at the front of the result, or 0 where they do not fit.
 pub fn form(table: &[u32], result: &mut [u32]) -> usize

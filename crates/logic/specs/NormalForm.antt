@@ -62,9 +62,13 @@ abbrev pub below : ℕ → List ℕ
 below zero = []
 below (suc n) = n ∷ below n
 
+-- the choices of a list with a given number of chosen ones
+abbrev pub chosenIn : List ℕ → ℕ → List ℕ
+chosenIn cs n = keep (λ c. eqb (ones c) n) cs
+
 -- the choices among k fixpoint formulas with a given number of chosen ones, higher numbers first
 unfoldable pub choicesOf : ℕ → ℕ → List ℕ
-choicesOf k n = keep (λ c. eqb (ones c) n) (below (2 ^ k))
+choicesOf k n = chosenIn (below (2 ^ k)) n
 
 abbrev pub joinAll {ℓ} : {A : Type ℓ} → List (List A) → List A
 joinAll [] = []

@@ -1,48 +1,24 @@
 -- What becomes of a slice to which the move of a state, or the start, is written, once the table t has passed its checks.
-use Prim.Native.Nat.{ℕ, _≤_}
+use Prim.Native.Nat.{ℕ}
 use mathlib.Core.Path.{_≡_}
-use mathlib.Core.Bool.{Bool, true, false, _&&_}
+use mathlib.Core.Bool.{true, false}
 use mathlib.Core.List.{List, _++_}
 use lib.ListN.{length, drop, replicate}
-use lib.Dec.{leb}
 use Rattle.refusals.specs.declared.Refusal.{Refusal}
 use Rattle.refusals.specs.declared.Refusal.the-variants.{ResultTooShort}
 use Rattle.refusals.specs.declared.Outcome.the-variants as outcome
-use Rattle.refusals.specs.Refusals.{Check, first}
+use Rattle.refusals.specs.Refusals.{first}
 use Rattle.table.specs.declared.answer.Answer.{Answer}
 use Rattle.table.specs.declared.answer.Answer.the-variants.{Made, Refused}
-use Rattle.table.specs.Checks.{checked}
-use Rattle.table.specs.StepChecks.{sampleChecks}
-use Rattle.table.specs.Numbering.{fits}
-use Rattle.automata_tables.specs.States.{stateWords}
 use Rattle.automata_tables.specs.Moves.{moveTable}
-use Rattle.state_numbers.specs.Numbered.{Filled}
-use Rattle.automaton_steps.specs.Steps.{stateChecks}
+use Rattle.move_placing.specs.Placed.{moveFits}
+use Rattle.move_checks.specs.Left.{leftChecks}
 
--- at most 16,383 states, and the words fit a slice
-unfoldable pub moveFits : List ℕ → ℕ → ℕ → ℕ → Bool
-moveFits t n v slice = leb (length (stateWords t)) 16383 && fits (length (moveTable t n v)) slice
-
--- the slice out becomes e: the move stands at the front, and r is its length; or r is 0
-pub record Placed (t : List ℕ) (n v : ℕ) (out e : List ℕ) (r : ℕ) : Type 0 where
-  pub unfit : r ≡ 0 → moveFits t n v (length out) ≡ false
-  pub fit : (r ≡ 0 → ⊥) → (moveFits t n v (length out) ≡ true) × (r ≡ length (moveTable t n v)) × (e ≡ moveTable t n v ++ drop (length (moveTable t n v)) out)
-
--- or every word is 0
+-- the move stands at the front, or every word is 0
 pub record Given (t : List ℕ) (n v : ℕ) (out e : List ℕ) (r : Answer) : Type 0 where
   pub fit : moveFits t n v (length out) ≡ true → (r ≡ Made (length (moveTable t n v))) × (e ≡ moveTable t n v ++ drop (length (moveTable t n v)) out)
   pub unfit : moveFits t n v (length out) ≡ false → (r ≡ Refused ResultTooShort) × (e ≡ replicate (length out) 0)
 
--- 6, then 22 and 21
-abbrev pub leftChecks : ℕ → ℕ → List ℕ → List Check
-leftChecks n driven t = stateChecks n t ++ sampleChecks driven t
-
 pub record Answered (t : List ℕ) (n v driven : ℕ) (out e : List ℕ) (r : Answer) : Type 0 where
   pub refused : (q : Refusal) → first (leftChecks n driven t) ≡ outcome.Refused q → (r ≡ Refused q) × (e ≡ out)
   pub passed : first (leftChecks n driven t) ≡ outcome.Accepted → Given t n v out e r
-
--- an accepted table, what is kept of it, and a state of it
-pub record Known (t bytes starts : List ℕ) (total n : ℕ) : Type 0 where
-  pub accepted : checked true 16383 t ≡ outcome.Accepted
-  pub filled : Filled t bytes starts total
-  pub inside : n ≤ total

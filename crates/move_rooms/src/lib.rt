@@ -1,50 +1,11 @@
-// A draft, numbers, a stack and an index of the size that the table can need: short tables pay for no more. State 0 is the start; any other is given with its
-// word and the bit of its class.
+// A draft, numbers, a stack and an index of the size that the table can need: short tables pay for no more.
 use draft::number;
-ghost use Prim.Native.Nat.{_+_, _*_, _≤_, _<_};
-ghost use mathlib.Core.Path.{_≡_};
+ghost use Prim.Native.Nat.{_+_, _*_, _≤_};
 ghost use lib.ListN.{length};
 ghost use Rattle.placing.specs.State as placed;
-ghost use Rattle.draft.specs.Drafted.{Drafted};
 ghost use Rattle.draft.specs.Numberable.{Fresh};
-ghost use Rattle.automata_tables.specs.Moves.{asFormula, writtenAt};
-ghost use Rattle.move_rooms.specs.Rooms.{rootOf, Drawn, Asked, Moved};
-
-// The slot of a word moved by a class.
-fn root(word: usize, class: usize) -> usize
-    requires { ⌜ word < 16384 ⌝ }
-    ensures { λ r. ⌜ r ≡ rootOf word class ⌝ }
-{
-    match class {
-        1 => 7 * word + 4,
-        2 => 7 * word + 5,
-        _ => 7 * word + 6,
-    }
-}
-
-// The slot of the start, or of the state's move, once its draft is filled.
-fn fill(
-    words: &[u32],
-    bytes: &[u8],
-    starts: &[u16],
-    sample: u32,
-    state: usize,
-    word: usize,
-    class: usize,
-    draft: &mut [u64],
-) -> usize
-    requires { ⌜ Drawn (now words) (now bytes) (now starts) state word class ⌝ }
-    requires { ⌜ (7 * length (now words) + 7 ≤ length (now draft)) × (length (now draft) ≤ 1048576) ⌝ }
-    ensures { λ r. ⌜ Drafted (now (draft .exit)) (asFormula (writtenAt (now (words .entry)) state sample)) r ⌝ }
-    ensures { λ r. ⌜ r < 7 * length (now (words .entry)) + 7 ⌝ }
-{
-    if state == 0 {
-        start_draft::fill(words, bytes, starts, draft);
-        return 3 * words.len() + 2;
-    }
-    move_draft::fill(words, bytes, starts, sample, class == 5, draft);
-    root(word, class)
-}
+ghost use Rattle.move_roots.specs.Roots.{Drawn};
+ghost use Rattle.move_rooms.specs.Rooms.{Asked, Moved};
 
 // With no slot numbered yet, and an index of no words.
 fn write_in(
@@ -66,7 +27,7 @@ fn write_in(
     requires { ⌜ Fresh (now draft) (now numbers) (now stack) (placed.state (now result) (now index)) ⌝ }
     ensures { λ r. ⌜ Moved (now (words .entry)) state sample (now (result .entry)) (now (result .exit)) r ⌝ }
 {
-    let root = fill(
+    let root = move_roots::fill(
         words,
         bytes,
         starts,

@@ -1,5 +1,6 @@
 // The move of a state of accepted words, or the start, written to the front of a slice of any length, in rooms of the size that it can need.
-ghost use Rattle.move_rooms.specs.Rooms.{Drawn, Moved};
+ghost use Rattle.move_roots.specs.Roots.{Drawn};
+ghost use Rattle.move_rooms.specs.Rooms.{Moved};
 
 // It has no more words than the draft has slots, so no more of the result is lent. That the function calls itself also keeps the arrays of
 // the rooms out of its frame.

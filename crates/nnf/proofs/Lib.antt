@@ -1,3 +1,1 @@
--- What the plain-form step promises.
-pub mod Promise
 pub mod Step

@@ -7,10 +7,9 @@ use mathlib.Core.List.{List, [], _∷_, _++_, map, foldl}
 use lib.ListN.{length}
 use lib.Count.{ones, ones-step}
 use lib.Pow.{pow-pos}
-use lib.Dec.{eqb}
 use borrow.Author.Tests.{ne-eqb}
 use Rattle.logic.specs.Formula.{Formula, bin, disj}
-use Rattle.logic.specs.NormalForm.{keep, from, below, joinAll, choicesOf, choices, disjoin, part, normalForm}
+use Rattle.logic.specs.NormalForm.{chosenIn, from, below, joinAll, choicesOf, choices, disjoin, part, normalForm}
 use Rattle.table.specs.Table.{rule}
 use Rattle.table.specs.Steps.{fixpoints}
 
@@ -18,10 +17,7 @@ use Rattle.table.specs.Steps.{fixpoints}
 abbrev pub disjoined : List ℕ → List ℕ → Formula → Formula
 disjoined t cs φ = foldl (bin disj) φ (map (part (fixpoints t) (rule t)) cs)
 
--- the choices of a list with so many chosen words, and those below a limit
-abbrev pub chosenIn : List ℕ → ℕ → List ℕ
-chosenIn cs n = keep (λ c. eqb (ones c) n) cs
-
+-- the choices below a limit with so many chosen words
 abbrev pub choicesBelow : ℕ → ℕ → List ℕ
 choicesBelow limit n = chosenIn (below limit) n
 

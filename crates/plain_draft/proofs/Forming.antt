@@ -4,7 +4,7 @@ use native.Mathlib.Omega.{arith}
 use mathlib.Core.Path.{_≡_, refl, sym, ap, subst, _∙_}
 use mathlib.Core.Bool.{Bool, true, not}
 use mathlib.Core.List.{List}
-use lib.ListN.{getD, set}
+use lib.ListN.{length, getD, set}
 use Rattle.logic.specs.Formula.{Formula, Unary, Binary, un, bin, next, neg, finally, globally, disj, until, release, implies}
 use Rattle.logic.specs.NegationNormalForm as form
 use Rattle.table.specs.Node.{shape, unaryKind, binaryKind, leftField, kindOf}
@@ -43,6 +43,12 @@ operator p {k = k} w c = operator-by p (shape k) (rw (kindOf-shape k (w .below))
 pub left-operator : {t : List ℕ} {j k l r : ℕ} → WordAt t j k l r → IsOperator k → Earlier l j
 left-operator w c = w .left-operand (operator true w c .left-operand)
 
+-- slot a holds what stands left of the right operand's form, at slot b: with both, the form of word j can be stored
+pub record Ready (p : Bool) (t : List ℕ) (j k : ℕ) (d e : List ℕ) (a b : ℕ) : Type 0 where
+  pub small : a < 1048576
+  pub long : length e ≡ length d
+  pub formed : {f : List ℕ} {x y : ℕ} → x ≡ signedKind p k → Stored e f (slotOf p j) (pack x a b) y → Formed p t j d f y
+
 -- word j, read, for its form (true) or that of its denial (false), whose slot is empty
 module _ {p : Bool} {t d : List ℕ} {j k l r : ℕ} (asked : Asked t d j) (word : WordAt t j k l r) (empty : getD d (slotOf p j) 0 ≡ 0) where
   -- a constant or a letter
@@ -70,19 +76,20 @@ module _ {p : Bool} {t d : List ℕ} {j k l r : ℕ} (asked : Asked t d j) (word
         later = λ i g. f .later i (omega (arith, b .below));
       }
 
-  pub next-formed : {e f : List ℕ} {b x : ℕ} → k ≡ 7 → Formed p t r d e b → Stored e f (slotOf p j) (pack 7 0 b) x → Formed p t j d f x
-  unfolding form.plain
-  next-formed {e} {f} {b} {x} h g q =
+  next-formed : {e f : List ℕ} {b x y : ℕ} → k ≡ 7 → Formed p t r d e b → x ≡ signedKind p k → Stored e f (slotOf p j) (pack x 0 b) y → Formed p t j d f y
+  unfolding form.plain signedKind
+  next-formed {e} {f} {b} {x} h g c q =
       let m = right-earlier word (omega arith) in
       let s = slot-bounds p j in
       let z : getD e (slotOf p j) 0 ≡ 0 = g .later (slotOf p j) (omega (arith, m .below)) ∙ empty in
+      let n : x ≡ unaryKind next = c ∙ rw (h, shape-unary next) in
       formed-then g (omega (arith, m .below)) (
       stored-form p j (asked-then asked g) z q (
       rw (unary-of next word h p) (
         b,
         omega (arith, g .below, m .below),
-        drafted-kept e (slotOf p j) (pack 7 0 b) z (formOf p t r) b (g .drafted),
-        slot-set e (slotOf p j) (pack 7 0 b) (slot-inside p (asked-then asked g)),
+        drafted-kept e (slotOf p j) (pack x 0 b) z (formOf p t r) b (g .drafted),
+        rw (← n) (slot-set e (slotOf p j) (pack x 0 b) (slot-inside p (asked-then asked g))),
       )
       )
       )
@@ -109,31 +116,49 @@ module _ {p : Bool} {t d : List ℕ} {j k l r : ℕ} (asked : Asked t d j) (word
       )
       )
 
-  -- F a is true U a, and G a is false R a
-  pub finally-formed : {e f : List ℕ} {b y : ℕ} → k ≡ 13 → Formed p t r d e b
-      → Stored e f (slotOf p j) (pack (binaryKind (form.signed p until)) (slotOf (not p) 0) b) y → Formed p t j d f y
-  unfolding form.plain
-  finally-formed h u q =
-      let m = right-earlier word (omega arith) in
-      binary-formed (form.signed p until) (unary-of finally word h p ∙ rw (constant-form p t .1)) (omega (arith, m .below)) (m .below) u (constant-formed (not p) (asked-then asked u)) refl q
+  -- what stands left of the right operand's form, by the word's kind: nothing at X
+  pub next-ready : {e : List ℕ} {b : ℕ} → k ≡ 7 → Formed p t r d e b → Ready p t j k d e 0 b
+  next-ready h u = record { small = omega arith; long = u .long; formed = next-formed h u }
 
-  pub globally-formed : {e f : List ℕ} {b y : ℕ} → k ≡ 14 → Formed p t r d e b
-      → Stored e f (slotOf p j) (pack (binaryKind (form.signed p release)) (slotOf p 0) b) y → Formed p t j d f y
-  unfolding form.plain
-  globally-formed h u q =
+  -- F a is true U a, and G a is false R a
+  pub finally-ready : {e : List ℕ} {b : ℕ} → k ≡ 13 → Formed p t r d e b → Ready p t j k d e (slotOf (not p) 0) b
+  unfolding form.plain signedKind
+  finally-ready h u =
       let m = right-earlier word (omega arith) in
-      binary-formed (form.signed p release) (unary-of globally word h p ∙ rw (constant-form p t .0)) (omega (arith, m .below)) (m .below) u (constant-formed p (asked-then asked u)) refl q
+      let f = constant-formed (not p) (asked-then asked u) in
+      record {
+        small = omega (arith, f .inside, asked .few, u .long);
+        long = u .long;
+        formed = λ c. binary-formed (form.signed p until) (unary-of finally word h p ∙ rw (constant-form p t .1)) (omega (arith, m .below)) (m .below) u f (c ∙ rw (h, shape-unary finally));
+      }
+
+  pub globally-ready : {e : List ℕ} {b : ℕ} → k ≡ 14 → Formed p t r d e b → Ready p t j k d e (slotOf p 0) b
+  unfolding form.plain signedKind
+  globally-ready h u =
+      let m = right-earlier word (omega arith) in
+      let f = constant-formed p (asked-then asked u) in
+      record {
+        small = omega (arith, f .inside, asked .few, u .long);
+        long = u .long;
+        formed = λ c. binary-formed (form.signed p release) (unary-of globally word h p ∙ rw (constant-form p t .0)) (omega (arith, m .below)) (m .below) u f (c ∙ rw (h, shape-unary globally));
+      }
 
   -- a implies b is (denial of a) or b
-  pub implies-formed : {e f g : List ℕ} {a b y : ℕ} → k ≡ 15 → Formed p t r d e b → Formed (not p) t l e f a
-      → Stored f g (slotOf p j) (pack (binaryKind (form.signed p disj)) a b) y → Formed p t j d g y
-  unfolding form.plain
-  implies-formed h u v q = binary-formed (form.signed p disj) (binary-of implies word h p) (left-binary implies word h .below) (right-earlier word (omega arith) .below) u v refl q
+  pub implies-ready : {e f : List ℕ} {a b : ℕ} → k ≡ 15 → Formed p t r d e b → Formed (not p) t l e f a → Ready p t j k d f a b
+  unfolding form.plain signedKind
+  implies-ready h u v = record {
+    small = omega (arith, v .inside, asked .few, u .long);
+    long = v .long ∙ u .long;
+    formed = λ c. binary-formed (form.signed p disj) (binary-of implies word h p) (left-binary implies word h .below) (right-earlier word (omega arith) .below) u v (c ∙ rw (h, shape-binary implies));
+  }
 
   -- and, or, U, W, R and M
-  pub operator-formed : {e f g : List ℕ} {a b x y : ℕ} → IsOperator k → x ≡ signedKind p k → Formed p t r d e b → Formed p t l e f a
-      → Stored f g (slotOf p j) (pack x a b) y → Formed p t j d g y
+  pub operator-ready : {e f : List ℕ} {a b : ℕ} → IsOperator k → Formed p t r d e b → Formed p t l e f a → Ready p t j k d f a b
   unfolding signedKind
-  operator-formed c z u v q =
-      let w = operator p word c in
-      binary-formed (w .operator) (ap (form.plain p) (word .formula) ∙ w .form r (formulaOf (formulas t) l) (formulaOf (formulas t) r)) (left-operator word c .below) (right-earlier word (c .above) .below) u v (z ∙ w .kinded) q
+  operator-ready o u v =
+      let w = operator p word o in
+      record {
+        small = omega (arith, v .inside, asked .few, u .long);
+        long = v .long ∙ u .long;
+        formed = λ c. binary-formed (w .operator) (ap (form.plain p) (word .formula) ∙ w .form r (formulaOf (formulas t) l) (formulaOf (formulas t) r)) (left-operator word o .below) (right-earlier word (o .above) .below) u v (c ∙ w .kinded);
+      }

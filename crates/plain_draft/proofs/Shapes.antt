@@ -15,20 +15,6 @@ use Rattle.slots.specs.Slot.{pack}
 use Rattle.draft.specs.Drafted.{SlotIs, Drafted}
 use Rattle.source.specs.Kinds.{signed, signedKind}
 
--- a wanted form puts the word's own kind
-signed-true : (s : Shape) → signed true s ≡ s
-signed-true none = refl
-signed-true (constant true) = refl
-signed-true (constant false) = refl
-signed-true (letter true) = refl
-signed-true (letter false) = refl
-signed-true (unary o) = refl
-signed-true (binary o) = refl
-
-pub wanted-kind : (k : ℕ) → k < 16 → k ≡ signedKind true k
-unfolding signedKind
-wanted-kind k h = sym (ap kindOf (signed-true (shape k)) ∙ kindOf-shape k h)
-
 -- kind 0 alone stands for nothing
 abbrev pub isWord : Shape → Bool
 isWord none = false
@@ -104,8 +90,9 @@ pub record Operator (p : Bool) (s : Shape) : Type 0 where
   pub form : (n : ℕ) (a b : Formula) → form.plain p (formulaBy s n a b) ≡ bin operator (form.plain p a) (form.plain p b)
   pub left-operand : isOperand (leftField s) ≡ true
 
-signed-operator : (p : Bool) (o : Binary) → ((a b : Formula) → form.plain p (bin o a b) ≡ bin (form.signed p o) (form.plain p a) (form.plain p b)) → Operator p (binary o)
-signed-operator p o f = record { operator = form.signed p o; kinded = refl; form = λ n a b. f a b; left-operand = refl }
+signed-operator : (p : Bool) (o : Binary) → kindOf (signed p (binary o)) ≡ binaryKind (form.signed p o)
+    → ((a b : Formula) → form.plain p (bin o a b) ≡ bin (form.signed p o) (form.plain p a) (form.plain p b)) → Operator p (binary o)
+signed-operator p o e f = record { operator = form.signed p o; kinded = e; form = λ n a b. f a b; left-operand = refl }
 
 pub operator-by : (p : Bool) (s : Shape) → IsOperator (kindOf s) → Operator p s
 unfolding form.plain
@@ -118,10 +105,10 @@ operator-by p (unary next) c = absurd (c .no-next refl)
 operator-by p (unary neg) c = absurd (c .no-not refl)
 operator-by p (unary finally) c = absurd (c .no-finally refl)
 operator-by p (unary globally) c = absurd (c .no-globally refl)
-operator-by p (binary conj) c = signed-operator p conj (λ a b. refl)
-operator-by p (binary disj) c = signed-operator p disj (λ a b. refl)
-operator-by p (binary until) c = signed-operator p until (λ a b. refl)
-operator-by p (binary weak) c = signed-operator p weak (λ a b. refl)
-operator-by p (binary release) c = signed-operator p release (λ a b. refl)
-operator-by p (binary strong) c = signed-operator p strong (λ a b. refl)
+operator-by p (binary conj) c = signed-operator p conj refl (λ a b. refl)
+operator-by p (binary disj) c = signed-operator p disj refl (λ a b. refl)
+operator-by p (binary until) c = signed-operator p until refl (λ a b. refl)
+operator-by p (binary weak) c = signed-operator p weak refl (λ a b. refl)
+operator-by p (binary release) c = signed-operator p release refl (λ a b. refl)
+operator-by p (binary strong) c = signed-operator p strong refl (λ a b. refl)
 operator-by p (binary implies) c = absurd (c .no-implies refl)

@@ -23,24 +23,20 @@ pub fn wanted(table: &[u32], draft: &mut [u64], j: usize) -> usize
     let kind = w.kind;
     let left = w.left;
     let right = w.right;
+    let plain = kinds::plain(kind);
     if kind < 5 {
-        return slot::store(draft, slot, kind, 0, right);
+        return slot::store(draft, slot, plain, 0, right);
     }
     if kind != 12 {
         let b = wanted(table, draft, right);
-        match kind {
-            7 => slot::store(draft, slot, 7, 0, b),
-            13 => slot::store(draft, slot, 8, TRUE, b),
-            14 => slot::store(draft, slot, 10, FALSE, b),
-            15 => {
-                let premise = denied(table, draft, left);
-                slot::store(draft, slot, 6, premise, b)
-            }
-            _ => {
-                let a = wanted(table, draft, left);
-                slot::store(draft, slot, kind, a, b)
-            }
-        }
+        let a = match kind {
+            7 => 0,
+            13 => TRUE,
+            14 => FALSE,
+            15 => denied(table, draft, left),
+            _ => wanted(table, draft, left),
+        };
+        slot::store(draft, slot, plain, a, b)
     } else {
         denied(table, draft, right)
     }
@@ -59,24 +55,20 @@ pub fn denied(table: &[u32], draft: &mut [u64], j: usize) -> usize
     let kind = w.kind;
     let left = w.left;
     let right = w.right;
+    let dual = kinds::dual(kind);
     if kind < 5 {
-        return slot::store(draft, slot, kinds::dual(kind), 0, right);
+        return slot::store(draft, slot, dual, 0, right);
     }
     if kind != 12 {
         let b = denied(table, draft, right);
-        match kind {
-            7 => slot::store(draft, slot, 7, 0, b),
-            13 => slot::store(draft, slot, 10, FALSE, b),
-            14 => slot::store(draft, slot, 8, TRUE, b),
-            15 => {
-                let premise = wanted(table, draft, left);
-                slot::store(draft, slot, 5, premise, b)
-            }
-            _ => {
-                let a = denied(table, draft, left);
-                slot::store(draft, slot, kinds::dual(kind), a, b)
-            }
-        }
+        let a = match kind {
+            7 => 0,
+            13 => FALSE,
+            14 => TRUE,
+            15 => wanted(table, draft, left),
+            _ => denied(table, draft, left),
+        };
+        slot::store(draft, slot, dual, a, b)
     } else {
         wanted(table, draft, right)
     }

@@ -3,10 +3,10 @@
 // after the argument `as-text` a text. A refusal prints one line: refused, the number, at, the place.
 use console::argument;
 use console::input::rest;
-use console::input::without_line_end;
+use line_end::without_line_end;
+use printing::report::refused;
+use printing::report::refused_text;
 use refusals::Outcome;
-use reports::refused;
-use reports::refused_text;
 use table::answer::Answer;
 use table::answer::Form;
 
@@ -15,8 +15,8 @@ fn answer(table: &[u32], as_text: bool) {
     let mut plain = [0u32; 131];
     let mut form = [0u32; 4097];
     match pipeline::form(limits::desk(), table, &mut plain, &mut form) {
-        Form::Source(n) => form_printing::form(&plain, n, as_text),
-        Form::Made(n) => form_printing::form(&form, n, as_text),
+        Form::Source(n) => printing::form::print(&plain, n, as_text),
+        Form::Made(n) => printing::form::print(&form, n, as_text),
         Form::Refused(r) => refused(r),
     }
 }
@@ -25,9 +25,8 @@ fn answer(table: &[u32], as_text: bool) {
 fn answer_bytes(bytes: &[u8], as_text: bool) {
     let mut words = [0u32; 66];
     let n = decoding::decode(bytes, &mut words);
-    let table: &[u32] = &words;
-    if n <= table.len() {
-        answer(&table[0..n], as_text);
+    if n <= 66 {
+        answer(&words[0..n], as_text);
     }
 }
 
@@ -38,9 +37,8 @@ fn table(as_text: bool) {
     match decoding::check_input(n, odd) {
         Outcome::Refused(r) => refused(r),
         Outcome::Accepted => {
-            let whole: &[u8] = &bytes;
-            if n <= whole.len() {
-                answer_bytes(&whole[0..n], as_text);
+            if n <= 264 {
+                answer_bytes(&bytes[0..n], as_text);
             }
         }
     }
@@ -50,9 +48,8 @@ fn answer_text(bytes: &[u8], as_text: bool) {
     let mut words = [0u32; 65];
     match text::read(limits::desk(), bytes, &mut words) {
         Answer::Made(n) => {
-            let table: &[u32] = &words;
-            if n <= table.len() {
-                answer(&table[0..n], as_text);
+            if n <= 65 {
+                answer(&words[0..n], as_text);
             }
         }
         Answer::Refused(r) => refused_text(r, bytes),
@@ -64,11 +61,10 @@ fn text_input(as_text: bool) {
     let mut bytes = [0u8; 1027];
     let n = io::read_full(0, &mut bytes);
     rest();
-    let whole: &[u8] = &bytes;
-    if n <= whole.len() {
-        let m = without_line_end(&whole[0..n]);
-        if m <= whole.len() {
-            answer_text(&whole[0..m], as_text);
+    if n <= 1027 {
+        let m = without_line_end(&bytes[0..n]);
+        if m <= 1027 {
+            answer_text(&bytes[0..m], as_text);
         }
     }
 }

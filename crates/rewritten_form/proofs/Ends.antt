@@ -30,7 +30,7 @@ use Rattle.heading.specs.Finished.{Finishable, Finished, Given}
 use Rattle.heading.proofs.Ends.{given-ends}
 use Rattle.heading.proofs.Lent.{lent-finishable, lent-given}
 use Rattle.normal_laws.proofs.Promise.{normal-accepted}
-use Rattle.fixpoints.specs.Positions.{Past}
+use Rattle.fixpoint_checks.specs.Past.{Past}
 use Rattle.form_rooms.specs.Rooms.{Accepted}
 use Rattle.fixpoints.proofs.Positions.{fixpoints-few}
 use Rattle.rewritten_form.specs.Forms.{Formed, Rewritable}

@@ -14,7 +14,7 @@ pub fn rewrite(limits: Limits, words: &[u32], result: &mut [u32]) -> Form
     requires { ⌜ Rewritable limits (now words) ⌝ }
     ensures { λ r. ⌜ Formed limits (headed (now (words .entry))) (now (result .entry)) r (now (result .exit)) ⌝ }
 {
-    let past = fixpoints::past(words, limits.fixpoints);
+    let past = fixpoint_checks::past(words, limits.fixpoints);
     if 0 < past {
         return Form::Refused(Refusal::TooManyFixpoints(past));
     }

@@ -1,4 +1,4 @@
-// A word of a table, taken apart, and the kind of its denial.
+// A word of a table, taken apart, and the kind that a plain form puts for its kind.
 ghost use Rattle.source.specs.Source.{Inside, WordAt};
 
 pub mod kinds;

@@ -3,9 +3,8 @@ use Prim.Native.Nat.{_-_, _≤_}
 use native.Mathlib.Omega.{arith}
 use mathlib.Core.Path.{_≡_, refl, _∙_}
 use lib.ListN.{length}
-use borrow.Author.Needs.{needs}
-use Rattle.dialect_draft.specs.Filling.{Filled}
-use Rattle.dialect_draft.proofs.Forms.{none-filled, next-word}
+use Rattle.dialect_slots.specs.Filling.{Filled}
+use Rattle.dialect_slots.proofs.Forms.{none-filled, next-word}
 use Rattle.dialect_draft.proofs.fill.Statement.{statement}
 use Rattle.dialect_draft.proofs.fill.Tie as tie
 
@@ -41,9 +40,9 @@ fill-spec =
     Inv-loop
     μ-loop
     loop-holds
-    (λ c. search needs)
+    (λ c. omega arith)
     convert-word-requires
-    (λ c. search needs)
+    (λ c. omega arith)
     loop-again
-    (λ c. search needs)
+    (λ c. omega arith)
     returns)

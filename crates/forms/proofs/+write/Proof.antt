@@ -12,7 +12,7 @@ use Rattle.forms.proofs.Tiers.{few-words, few-bits, formed-part, sized,
 use Rattle.forms.proofs.write.Reads as write
 use Rattle.forms.proofs.write.Kinds as write-kinds
 use Rattle.forms.proofs.+write.Lts-write as write-lts
-use Rattle.forms.proofs.words.Reads as words-reads
+use Rattle.form_lengths.proofs.words.Reads as words-reads
 use Rattle.form_rooms.proofs.small.Reads as small-reads
 use Rattle.form_rooms.proofs.middle.Reads as middle-reads
 use Rattle.form_rooms.proofs.large.Reads as large-reads

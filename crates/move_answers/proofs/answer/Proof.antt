@@ -4,7 +4,7 @@ use mathlib.Core.Path.{_≡_, sym, _∙_}
 use denote.Ref.{now}
 use Rattle.refusals.specs.declared.Outcome.the-variants.{Accepted}
 use Rattle.refusals.specs.Refusals.{first}
-use Rattle.move_answers.specs.Answered.{leftChecks}
+use Rattle.move_checks.specs.Left.{leftChecks}
 use Rattle.move_answers.proofs.Given.{left-known, answered-refused, answered-given}
 use Rattle.move_answers.proofs.answer.Statement.{statement}
 use Rattle.move_answers.proofs.answer.Tie as tie

@@ -3,7 +3,7 @@ use denote.Ref.{now}
 use Rattle.placing.proofs.Written.{written-all}
 use Rattle.draft.proofs.Fresh.{fresh-numberable}
 use Rattle.automata_tables.specs.Moves.{asFormula, writtenAt, moveTable}
-use Rattle.move_rooms.proofs.Roots.{written-small, drafted-short}
+use Rattle.move_roots.proofs.Roots.{written-small, drafted-short}
 use Rattle.move_rooms.proofs.write_in.Statement.{statement}
 use Rattle.move_rooms.proofs.write_in.Tie as tie
 

@@ -3,11 +3,12 @@
 use Prim.Native.Nat.{ℕ, _<_}
 use native.Mathlib.Omega.{arith}
 use borrow.Author.Needs.{needs}
+use mathlib.Core.Logic.{⊎-elim}
 use Rattle.logic.specs.Formula.{implies}
 use mathlib.Core.Bool.{true, false}
 use Rattle.plain_draft.proofs.Filling.{asked-after, known-formed, earlier-falls, asked-earlier}
-use Rattle.plain_draft.proofs.Forming.{right-earlier, left-binary, left-operator, leaf-formed, not-formed, next-formed, finally-formed, globally-formed, implies-formed, operator-formed}
-use Rattle.plain_draft.proofs.Shapes.{wanted-kind, IsOperator, last-arm}
+use Rattle.plain_draft.proofs.Forming.{right-earlier, left-binary, left-operator, leaf-formed, not-formed, Ready, next-ready, finally-ready, globally-ready, implies-ready, operator-ready}
+use Rattle.plain_draft.proofs.Shapes.{IsOperator, last-arm}
 use borrow.Fn.Kinds.{In}
 use borrow.Fn.PlainCycle.{Measures, is, falls, and}
 use Rattle.plain_draft.proofs.denied.Reads as denied
@@ -18,6 +19,7 @@ use Rattle.plain_draft.proofs.wanted.Kinds as wanted-kinds
 use Rattle.plain_draft.proofs.+denied+wanted.Lts-wanted as wanted-lts
 use Rattle.slots.proofs.slot.store.Reads as store-reads
 use Rattle.source.proofs.kinds.dual.Reads as dual-reads
+use Rattle.source.proofs.kinds.plain.Reads as plain-reads
 use Rattle.source.proofs.read.Reads as read-reads
 use Rattle.plain_draft.proofs.+denied+wanted.{statement}
 use Rattle.plain_draft.proofs.+denied+wanted.Tie.{close}
@@ -44,18 +46,61 @@ abbrev denied-callees : ℕ → denied-lts.Claims
 denied-callees t = (read-reads.Asked, read-reads.Learnt, dual-reads.Asked, dual-reads.Learnt, store-reads.Asked, store-reads.Learnt, denied-below t, denied.Post, wanted-below t, wanted.Post)
 
 abbrev wanted-callees : ℕ → wanted-lts.Claims
-wanted-callees t = (read-reads.Asked, read-reads.Learnt, store-reads.Asked, store-reads.Learnt, wanted-below t, wanted.Post, denied-below t, denied.Post)
+wanted-callees t = (read-reads.Asked, read-reads.Learnt, plain-reads.Asked, plain-reads.Learnt, store-reads.Asked, store-reads.Learnt, wanted-below t, wanted.Post, denied-below t, denied.Post)
 
 -- the last arm is that of the operators
-denied-operator : (t : ℕ) (c : denied-lts.At-match-rest (denied-callees t) (denied-at t) denied.Post) → IsOperator (c .before .before .before .before .before .before .before .read .result .kind)
+denied-operator : (t : ℕ) (c : denied-lts.At-match-rest (denied-callees t) (denied-at t) denied.Post) → IsOperator (c .before .before .before .before .before .before .before .before .read .result .kind)
 denied-operator t c =
     let past = c .before .before .before .before .before in
     last-arm (past .before .if2 .left) (past .if3 .taken) (c .match .rest)
 
-wanted-operator : (t : ℕ) (c : wanted-lts.At-match-rest (wanted-callees t) (wanted-at t) wanted.Post) → IsOperator (c .before .before .before .before .before .before .before .read .result .kind)
+-- where the arms meet
+denied-ready : (t : ℕ) (c : denied-lts.At-match-came (denied-callees t) (denied-at t) denied.Post) → Ready false
+    (c .before .before .before .before .before .before .before .before .before .before .before .before .before .args .table .now)
+    (c .before .before .before .before .before .before .before .before .before .before .before .before .before .args .j)
+    (c .before .before .before .before .before .before .before .before .read .result .kind)
+    (c .before .before .before .before .before .before .before .before .before .before .before .before .before .args .draft .now)
+    (c .match .draft) (c .match .a) (c .before .before .before .denied .result)
+denied-ready t c =
+    let right = c .before .before .before in
+    let known = right .before .before .before .before .before in
+    let asked = known .before .before .before .before .before .pre .1 in
+    let word = known .read .ensures in
+    let empty = known .before .if1 .left in
+    let u = right .denied .ensures in
+    ⊎-elim (λ w. rw (w .1, w .2) (next-ready asked word empty (w .0 .keys1) u))
+    (⊎-elim (λ w. rw (w .1, w .2) (finally-ready asked word empty (w .0 .keys2) u))
+    (⊎-elim (λ w. rw (w .1, w .2) (globally-ready asked word empty (w .0 .keys3) u))
+    (⊎-elim (λ w. rw (w .5, w .6) (implies-ready asked word empty (w .0 .keys4) u (w .2 .ensures)))
+    (λ w. rw (w .5, w .6) (operator-ready asked word empty (denied-operator t (record { before = c .before; match = w .0 })) u (w .2 .ensures))))))
+    (c .match .came)
+
+-- the last arm is that of the operators
+wanted-operator : (t : ℕ) (c : wanted-lts.At-match-rest (wanted-callees t) (wanted-at t) wanted.Post) → IsOperator (c .before .before .before .before .before .before .before .before .read .result .kind)
 wanted-operator t c =
     let past = c .before .before .before .before .before in
     last-arm (past .before .if2 .left) (past .if3 .taken) (c .match .rest)
+
+-- where the arms meet
+wanted-ready : (t : ℕ) (c : wanted-lts.At-match-came (wanted-callees t) (wanted-at t) wanted.Post) → Ready true
+    (c .before .before .before .before .before .before .before .before .before .before .before .before .before .args .table .now)
+    (c .before .before .before .before .before .before .before .before .before .before .before .before .before .args .j)
+    (c .before .before .before .before .before .before .before .before .read .result .kind)
+    (c .before .before .before .before .before .before .before .before .before .before .before .before .before .args .draft .now)
+    (c .match .draft) (c .match .a) (c .before .before .before .wanted .result)
+wanted-ready t c =
+    let right = c .before .before .before in
+    let known = right .before .before .before .before .before in
+    let asked = known .before .before .before .before .before .pre .1 in
+    let word = known .read .ensures in
+    let empty = known .before .if1 .left in
+    let u = right .wanted .ensures in
+    ⊎-elim (λ w. rw (w .1, w .2) (next-ready asked word empty (w .0 .keys1) u))
+    (⊎-elim (λ w. rw (w .1, w .2) (finally-ready asked word empty (w .0 .keys2) u))
+    (⊎-elim (λ w. rw (w .1, w .2) (globally-ready asked word empty (w .0 .keys3) u))
+    (⊎-elim (λ w. rw (w .5, w .6) (implies-ready asked word empty (w .0 .keys4) u (w .2 .ensures)))
+    (λ w. rw (w .5, w .6) (operator-ready asked word empty (wanted-operator t (record { before = c .before; match = w .0 })) u (w .2 .ensures))))))
+    (c .match .came)
 
 pub +denied+wanted-spec : {M : Type 1} → statement M
 +denied+wanted-spec = close μ-denied μ-wanted (λ t. denied-lts.spec (denied-callees t)
@@ -68,33 +113,20 @@ pub +denied+wanted-spec : {M : Type 1} → statement M
     (λ c. omega arith)
     (λ c. search (known-formed false))
     (λ c κs. search needs)
-    -- constants and letters
     (λ c κs. search needs)
+    -- constants and letters
     (λ c κs. search needs)
     (λ c. search needs)
     (λ c. search leaf-formed)
-    -- the right operand, and the other calls and stores of X, F, G, implies and the operators; the operand of not
+    -- the operands of the others, the right one first, and their own slot; the operand of not
     (λ c κs. search (earlier-falls, asked-earlier, right-earlier))
-    (λ c κs. search needs)
-    (λ c κs. search needs)
-    (λ c κs. search needs)
-    (λ c κs. (search (earlier-falls, left-binary implies, right-earlier), search (asked-after, left-binary implies, right-earlier)))
-    (λ c κs. search needs)
-    (λ c κs. (search (earlier-falls, left-operator, right-earlier, denied-operator t), search (asked-after, left-operator, right-earlier, denied-operator t)))
-    (λ c κs. search needs)
-    (λ c κs. search needs)
+    (λ c κs. (search (earlier-falls, left-binary implies), search (asked-after, left-binary implies)))
+    (λ c κs. (search (earlier-falls, left-operator, denied-operator t), search (asked-after, left-operator, denied-operator t)))
+    (λ c κs. let r = denied-ready t (c .before) in search (needs, r))
     (λ c κs. search (earlier-falls, asked-earlier, right-earlier))
-    -- what each of these ends with
-    (λ c. search needs)
-    (λ c. search next-formed)
-    (λ c. search needs)
-    (λ c. search finally-formed)
-    (λ c. search needs)
-    (λ c. search globally-formed)
-    (λ c. search needs)
-    (λ c. search implies-formed)
-    (λ c. search needs)
-    (λ c. search (operator-formed, denied-operator t))
+    -- what these end with
+    (λ c. let r = denied-ready t (c .before .before .before .before) in search (needs, r .long))
+    (λ c. let r = denied-ready t (c .before .before .before .before) in search (r .formed))
     (λ c. search needs)
     (λ c. search not-formed))
     λ t. wanted-lts.spec (wanted-callees t)
@@ -106,30 +138,19 @@ pub +denied+wanted-spec : {M : Type 1} → statement M
     (λ c. omega arith)
     (λ c. search (known-formed true))
     (λ c κs. search needs)
+    (λ c κs. search needs)
     -- constants and letters
     (λ c κs. search needs)
     (λ c. search needs)
-    (λ c. search (wanted-kind, leaf-formed))
-    -- the right operand, and the other calls and stores of X, F, G, implies and the operators; the operand of not
+    (λ c. search leaf-formed)
+    -- the operands of the others, the right one first, and their own slot; the operand of not
     (λ c κs. search (earlier-falls, asked-earlier, right-earlier))
-    (λ c κs. search needs)
-    (λ c κs. search needs)
-    (λ c κs. search needs)
-    (λ c κs. (search (earlier-falls, left-binary implies, right-earlier), search (asked-after, left-binary implies, right-earlier)))
-    (λ c κs. search needs)
-    (λ c κs. (search (earlier-falls, left-operator, right-earlier, wanted-operator t), search (asked-after, left-operator, right-earlier, wanted-operator t)))
-    (λ c κs. search needs)
+    (λ c κs. (search (earlier-falls, left-binary implies), search (asked-after, left-binary implies)))
+    (λ c κs. (search (earlier-falls, left-operator, wanted-operator t), search (asked-after, left-operator, wanted-operator t)))
+    (λ c κs. let r = wanted-ready t (c .before) in search (needs, r))
     (λ c κs. search (earlier-falls, asked-earlier, right-earlier))
-    -- what each of these ends with
-    (λ c. search needs)
-    (λ c. search next-formed)
-    (λ c. search needs)
-    (λ c. search finally-formed)
-    (λ c. search needs)
-    (λ c. search globally-formed)
-    (λ c. search needs)
-    (λ c. search implies-formed)
-    (λ c. search needs)
-    (λ c. search (wanted-kind, operator-formed, wanted-operator t))
+    -- what these end with
+    (λ c. let r = wanted-ready t (c .before .before .before .before) in search (needs, r .long))
+    (λ c. let r = wanted-ready t (c .before .before .before .before) in search (r .formed))
     (λ c. search needs)
     (λ c. search not-formed)

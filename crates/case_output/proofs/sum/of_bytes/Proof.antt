@@ -24,5 +24,4 @@ of-bytes-spec =
     (search needs)
     (search needs)
     (search needs)
-    (search needs)
     (search needs))

@@ -25,5 +25,4 @@ of-words-spec =
     (search needs)
     (search needs)
     (search needs)
-    (search needs)
     (search needs))

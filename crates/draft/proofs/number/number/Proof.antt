@@ -2,7 +2,7 @@
 use Prim.Native.Nat.{ℕ, _+_, _-_, _*_, _<_, _≤_}
 use native.Mathlib.Omega.{arith}
 use mathlib.Core.Path.{_≡_, refl, sym, _∙_}
-use lib.ListN.{length, getD, length-set}
+use lib.ListN.{length, getD, set, length-set}
 use borrow.Author.Needs.{needs}
 use Rattle.placing.specs.State.{state}
 use Rattle.slots.specs.Turn.{turnOf}
@@ -42,6 +42,9 @@ putting c = c .before .before .before .before .before .before
 
 stack-long : (c : tie.At-loop Inv-loop μ-loop) → length (c .loop .stack) ≡ length (start c .args .stack .now)
 stack-long c = c .loop .inv .1 ∙ length-set (start c .args .stack .now) 0 (start c .args .root)
+
+numbers-long : (c : tie.At-loop Inv-loop μ-loop) (n : ℕ) → length (set (c .loop .numbers) (top c) n) ≡ length (start c .args .numbers .now)
+numbers-long c n = length-set (c .loop .numbers) (top c) n ∙ c .loop .inv .0
 
 numbered : (c : tie.At-loop Inv-loop μ-loop) → top c < length (c .loop .numbers)
 numbered c = omega (arith, c .loop .inv .0, c .loop .inv .4, c .loop .inv .5, start c .pre .1 .numbers-long)
@@ -177,35 +180,35 @@ number-spec =
     cast-stack
     slice-write-stack
     loop-holds
-    (search needs)
-    (search needs)
+    (λ c. omega arith)
+    (λ c. omega arith)
     slice-read-top
-    (search needs)
-    (search needs)
-    (search needs)
+    (λ c. omega arith)
+    (λ c. omega arith)
+    (λ c. omega arith)
     next-requires
-    (search needs)
+    (λ c. omega arith)
     cast-stack-2
-    (search needs)
+    (λ c. omega arith)
     higher
-    (search needs)
-    (search needs)
+    (λ c. omega arith)
+    (λ c. omega arith)
     loop-again
-    (search needs)
+    (λ c. omega arith)
     put-requires
-    (search needs)
-    (search needs)
-    (search needs)
-    (λ c. search needs)
+    (λ c. omega arith)
+    (λ c. omega arith)
+    (λ c. omega arith)
+    (λ c. numbers-long (asking (putting (c .before .before .before .before .before))) (c .before .before .before .before .before .put .result))
     (λ c. stack-long (asking (putting (c .before .before .before .before .before))))
-    (λ c. search needs)
-    (λ c. search needs)
+    (λ c. omega arith)
+    (λ c. omega arith)
     returns-2
-    (λ c. search needs)
+    (λ c. numbers-long (asking (putting (c .before .before .before .before .before .before))) (c .before .before .before .before .before .before .put .result))
     (λ c. stack-long (asking (putting (c .before .before .before .before .before .before))))
-    (λ c. search needs)
-    (λ c. search needs)
+    (λ c. omega arith)
+    (λ c. omega arith)
     returns-3
-    (search needs)
+    (λ c. omega arith)
     loop-less-2
     loop-again-2)

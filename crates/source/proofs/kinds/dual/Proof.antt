@@ -12,7 +12,7 @@ use Rattle.source.proofs.kinds.dual.Statement.{statement}
 use Rattle.source.proofs.kinds.dual.Tie as tie
 
 duals : List ℕ
-duals = 0 ∷ 2 ∷ 1 ∷ 4 ∷ 3 ∷ 6 ∷ 5 ∷ 7 ∷ 10 ∷ 11 ∷ 8 ∷ 9 ∷ 12 ∷ 13 ∷ 14 ∷ 15 ∷ []
+duals = 0 ∷ 2 ∷ 1 ∷ 4 ∷ 3 ∷ 6 ∷ 5 ∷ 7 ∷ 10 ∷ 11 ∷ 8 ∷ 9 ∷ 12 ∷ 10 ∷ 8 ∷ 5 ∷ []
 
 returns : tie.Need-returns
 unfolding duals signedKind shape allPass

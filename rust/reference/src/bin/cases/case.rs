@@ -106,7 +106,7 @@ impl Case {
         Case { label, limits, ..self }
     }
 
-    /// The case as the runner reads it (crates/case_input/src/input.rt).
+    /// The case as the runner reads it (crates/case_input/src/lib.rt).
     pub fn words(&self) -> Vec<u32> {
         // the header is the first of the listed words, and stands before the chain; the word that is replaced is counted with it
         let header = self.header();

@@ -1,0 +1,21 @@
+use Prim.Native.Nat.{_-_}
+use mathlib.Core.Path.{_≡_}
+use lib.ListN.{length, length-set}
+use borrow.Author.Needs.{needs}
+use Rattle.case_input.proofs.bytes.Statement.{statement}
+use Rattle.case_input.proofs.bytes.Tie as tie
+
+pub bytes-spec : {M : Type 1} → statement M
+bytes-spec =
+    tie.close
+    (tie.spec
+    (λ words out₀ i₀ out i. length out ≡ length out₀)
+    (λ words out₀ i₀ out i. length out₀ - i)
+    (search needs)
+    (search needs)
+    (search needs)
+    (search needs)
+    (search needs)
+    (λ c. simp length-set (c .before .before .loop .inv))
+    (search needs)
+    (search needs))

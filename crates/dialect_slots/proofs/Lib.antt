@@ -1,0 +1,3 @@
+-- How the conversion of a word stands in a draft.
+pub mod Shapes
+pub mod Forms

@@ -1,2 +1,0 @@
--- How long a form can be.
-pub mod Forms

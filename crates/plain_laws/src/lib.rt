@@ -1,0 +1,1 @@
+// Laws of a plain form's table, whoever makes it; no code.
