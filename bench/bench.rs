@@ -33,7 +33,7 @@ fn main() {
         ("text", "reading texts, beside the hash-map program", &texts),
         ("form", "whole way and normal form, beside the hash-map program", &|| forms(rules())),
         ("dialect", "the dialect without W and M, beside the hash-map program", &dialects),
-        ("judge", "the judge", &judges),
+        ("judge", "the judge", &|| judges(&rules())),
         ("watch", "following a rule, and its automaton", &|| watches(&rules())),
         ("growth", "how cost grows", &growth),
         ("stack", "stack, bytes written to", &stacks),
@@ -213,12 +213,37 @@ fn dialects() {
     }
 }
 
-// Kinds 5 to 11 mixed and loop start 0; the same over 32 letters at random, where few rows are constant; and written tables with a
-// later loop start.
-fn judges() {
+// The rules of source 000; then long tables: kinds 5 to 11 mixed and loop start 0; the same over 32 letters at random, where few rows are
+// constant; and written tables with a later loop start.
+fn judges(rules: &[Rule]) {
+    for n in [64, 640, 4096] {
+        judge_rules(rules, &noise(n), n / 3);
+    }
     judge("kinds 5 to 11", &mixed(16383, &PLAIN), &recording(4096), 0);
     judge("kinds 5 to 11, 32 letters at random", &over_letters(32, 16383, &PLAIN), &noise(4096), 0);
     judge("kinds 5 to 15", &mixed(16383, &WRITTEN), &recording(4096), 1365);
+}
+
+// Written tables of short rules, beside the judge that goes moment by moment.
+fn judge_rules(rules: &[Rule], samples: &[u32], start: usize) {
+    let recording = Recording { samples, start, driven: 32 };
+    let (mut ours, mut theirs) = (Vec::new(), Vec::new());
+    for rule in rules {
+        let table = &rule.table[..];
+        let mut scratch = vec![0; table.len() * 64];
+        let mut expected = scratch.clone();
+        assert_eq!(library::judge(table, recording, &mut scratch), moments::judge(table, recording, &mut expected));
+        assert!(scratch == expected, "the rows are the same");
+        let (o, t) = pair(
+            || library::judge(black_box(table), recording, &mut scratch),
+            || moments::judge(black_box(table), recording, &mut expected),
+        );
+        ours.push(o);
+        theirs.push(t);
+    }
+    let ratio = ours.iter().sum::<f64>() / theirs.iter().sum::<f64>();
+    println!("judge, {} rules x {} samples: {}", rules.len(), samples.len(), watching::spread(ours));
+    println!("  moment by moment: {}, ratio {ratio:.3} in sum", watching::spread(theirs));
 }
 
 // Beside writing and copying to the same memory, and beside the judge that goes moment by moment.

@@ -54,7 +54,7 @@ fn moved_by_all(table: &[u32], count: usize, result: &mut [u32]) {
     }
 }
 
-fn spread(mut times: Vec<f64>) -> String {
+pub fn spread(mut times: Vec<f64>) -> String {
     times.sort_by(f64::total_cmp);
     format!("{:.0} to {:.0} ns, {:.0} in the median", times[0], times[times.len() - 1], times[times.len() / 2])
 }

@@ -9,11 +9,11 @@ ghost use Rattle.row_words.specs.Writing.{RowFor, joins};
 ghost use Rattle.operators.specs.Looped.{literally, operation, does, rowBy};
 ghost use Rattle.operand_rows.specs.Operands.{rowNumber, Standing, Prepared};
 use connective_rows::write_connective;
+use letter_rows::write_letter;
 use operators::operator::Operator;
 use row_fixpoints::write_fixpoint;
 use row_words::connective::Connective;
 use rows::write_constant;
-use rows::write_letter;
 use rows::write_next;
 
 // The row of a word by its operator, from the rows that the operator reads.

@@ -7,11 +7,11 @@ ghost use Rattle.row_words.specs.Row as rows;
 ghost use Rattle.row_words.specs.Writing.{RowFor};
 use connective_rows::write_connective;
 use row_sweeps::sweep_words;
-use row_sweeps::value_at;
 use row_tests::everywhere;
 use row_tests::settled;
 use row_words::connective::Connective;
 use rows::write_constant;
+use sweep_values::value_at;
 
 // The least or greatest fixpoint of: g now, or p now and the same at the next position. Its value at the loop start is what comes in
 // at the end. Rows that hold everywhere and rows that are the goal's are most, and need no sweep.

@@ -1,19 +1,16 @@
 -- The laws of one word of a row, an operation each.
 use mathlib.Core.Path.{_≡_, refl, sym, ap, ap₂, _∙_}
-use mathlib.Core.Bool.{Bool, true, false, cond, _&&_, _||_, and-true, Bool·beq}
+use mathlib.Core.Bool.{Bool, true, false, cond, _&&_, _||_, and-true}
 use Prim.Native.Nat.{ℕ, zero, suc, _+_, _-_, _*_, _/_, _%_, _^_, _≤_, _<_}
-use native.Mathlib.Nat.{add-sub-of-le, one-mul, zero-mul, mod-lt, lt-of-lt-of-le}
+use native.Mathlib.Nat.{add-sub-of-le, one-mul, zero-mul}
 use native.Mathlib.Omega.{arith}
 use borrow.Author.Tests.{eq-eqb, ne-eqb, ltb-true, ltb-false}
 use lib.Dec.{eqb, ltb}
-use lib.Pow.{high, ones-split, ones-lt, shl-exact, pow-mono}
+use lib.Pow.{high, ones-split, ones-lt, shl-exact}
 use lib.Bits.{bitOr, or-zero-r}
-use Rattle.logic.specs.Lasso.{letterIn}
 use Rattle.logic.specs.Truth.{Sequence}
-use Rattle.logic.specs.Bit.{bit}
-use Rattle.row_words.specs.Row.{digit, packBits}
-use Rattle.row_words.specs.Writing.{literal}
-use Rattle.row_words.proofs.Bits.{pack-lt, pack-ext, pack-or, pack-top, pack-shift}
+use Rattle.row_words.specs.Row.{packBits}
+use Rattle.row_words.proofs.Bits.{pack-ext, pack-or, pack-top, pack-shift}
 
 -- n ones are 64 of them, shifted
 pub shifted-ones : (n : ℕ) → n ≤ 64 → 18446744073709551615 / 2 ^ (64 - n) ≡ 2 ^ n - 1
@@ -61,37 +58,3 @@ next-law A i zero x d h l m e = absurd (omega arith)
 next-law A i (suc n) x zero h l m e = rw e (ap (bitOr (packBits A i (suc n) / 2)) (ap (λ (y : ℕ). y % 2 ^ 64) (zero-mul (2 ^ (suc n - 1)))) ∙ or-zero-r _ ∙ pack-next A i (suc n))
 next-law A i (suc n) x (suc zero) h l m e = rw (e, last-bit n m) (pack-next-carry A i n)
 next-law A i (suc n) x (suc (suc d)) h l m e = absurd (omega arith)
-
--- ---- letters
-
--- the bit of a letter, and its denial, as a digit
-pub literal-held : (v n : ℕ) (positive : Bool) → positive ≡ true → v / 2 ^ (n - 1) % 2 ≡ digit (literal n positive v)
-unfolding letterIn bit
-literal-held v n positive e = rw e (held (v / 2 ^ (n - 1) % 2) (mod-lt (v / 2 ^ (n - 1)) (omega arith)))
-  where
-    held : (d : ℕ) → d < 2 → d ≡ digit (Bool·beq true (eqb d 1))
-    held zero h = refl
-    held (suc zero) h = refl
-    held (suc (suc d)) h = absurd (omega arith)
-
-pub literal-denied : (v n : ℕ) (positive : Bool) → positive ≡ false → 1 - v / 2 ^ (n - 1) % 2 ≡ digit (literal n positive v)
-unfolding letterIn bit
-literal-denied v n positive e = rw e (denied (v / 2 ^ (n - 1) % 2) (mod-lt (v / 2 ^ (n - 1)) (omega arith)))
-  where
-    denied : (d : ℕ) → d < 2 → 1 - d ≡ digit (Bool·beq false (eqb d 1))
-    denied zero h = refl
-    denied (suc zero) h = refl
-    denied (suc (suc d)) h = absurd (omega arith)
-
--- one more position at the low end
-pub pack-more : (f : Sequence) (i j m n x d : ℕ) → j ≡ suc i → n ≡ suc m → x ≡ packBits f j m → d ≡ digit (f i) → x * 2 + d ≡ packBits f i n
-unfolding packBits
-pack-more f i j m n x d ej en ex ed = rw (en, ex, ed, ej)
-
-pub pack-none : (f : Sequence) (i n : ℕ) → n ≡ 0 → 0 ≡ packBits f i n
-unfolding packBits
-pack-none f i n e = rw e
-
--- 63 positions leave room for one more
-pub pack-room : (f : Sequence) (i n : ℕ) → n < 64 → packBits f i n < 2 ^ 63
-pack-room f i n h = let l : n ≤ 63 = omega arith in lt-of-lt-of-le (pack-lt f i n) (pow-mono l)

@@ -3,11 +3,9 @@ ghost use mathlib.Core.Path.{_≡_};
 ghost use mathlib.Core.Bool.{cond};
 ghost use Prim.Native.Nat.{ℕ, suc, _+_, _-_, _*_, _%_, _^_, _≤_, _<_};
 ghost use lib.Dec.{ltb, eqb};
-ghost use lib.ListN.{length, getD};
 ghost use Rattle.logic.specs.Bit as bits;
 ghost use Rattle.logic.specs.Truth.{Sequence};
 ghost use Rattle.row_words.specs.Row as rows;
-ghost use Rattle.row_words.specs.Writing as writing;
 
 // How many words a row of so many positions has.
 pub fn row_words(positions: usize) -> usize
@@ -61,30 +59,4 @@ pub fn shift(x: u64, after: u64, n: usize) -> u64
         → r ≡ rows.packBits (λ k. cond (ltb (suc k) (i + n)) (A (suc k)) (eqb (after % 2) 1)) i n) ⌝ }
 {
     (x >> 1) | ((after % 2) << (n - 1))
-}
-
-// A letter, or its denial, at the n samples from the first on.
-pub fn letters(samples: &[u32], first: usize, n: usize, letter: u32, positive: bool) -> u64
-    requires { ⌜ (first + n ≤ length (now samples)) × (n ≤ 64) × (1 ≤ letter) × (letter ≤ 32) ⌝ }
-    ensures { λ r. ⌜ r ≡ rows.packBits (λ i. writing.literal letter positive (getD (now (samples .entry)) i 0)) first n ⌝ }
-{
-    let mut word: u64 = 0;
-    let mut i = n;
-    while 0 < i {
-        i -= 1;
-        word = word * 2 + literal(samples[first + i], letter, positive);
-    }
-    word
-}
-
-// A letter, or its denial, in one sample, as a bit.
-fn literal(sample: u32, letter: u32, positive: bool) -> u64
-    requires { ⌜ (1 ≤ letter) × (letter ≤ 32) ⌝ }
-    ensures { λ r. ⌜ r ≡ rows.digit (writing.literal letter positive sample) ⌝ }
-{
-    let b = (sample >> (letter - 1)) % 2;
-    if positive {
-        return b as u64;
-    }
-    (1 - b) as u64
 }

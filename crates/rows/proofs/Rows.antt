@@ -137,12 +137,6 @@ module _ (L : ℕ) (G P : Sequence) (c carry : Bool) (w u n : ℕ) (h : w * 64 <
       ∙ sym (sweep-append G P c i m (L - (w * 64 + n)))
       ∙ ap (sweep G P c i) (omega arith)
 
-  pub sweep-word : packBits (λ k. sweep G P carry k (w * 64 + n - k)) (w * 64) n ≡ wordOf L (λ i. sweep G P c i (L - i)) w
-  unfolding wordOf
-  sweep-word =
-      pack-ext _ (λ i. sweep G P c i (L - i)) (w * 64) (w * 64) n (λ k l. sweep-from (w * 64 + k) (w * 64 + n - (w * 64 + k)) (omega arith))
-      ∙ ap (packBits (λ i. sweep G P c i (L - i)) (w * 64)) en
-
 -- word w one position on, from the value at the first position of the word after, or from what comes in at the end if there is none
 pub next-word : (L : ℕ) (A : Sequence) (c carry : Bool) (w n : ℕ) → w * 64 < L → n ≡ filled L w
     → carry ≡ cond (ltb (suc w * 64) L) (A (suc w * 64)) c

@@ -1,15 +1,14 @@
-// Rows of truth values: the truth of a formula at each of up to 4,096 positions, 64 positions to a word. A writer for constants, letters
-// and the next position each; an operand is lent as its row.
+// Rows of truth values: the truth of a formula at each of up to 4,096 positions, 64 positions to a word. A writer for constants
+// and one for the next position; an operand is lent as its row.
 ghost use mathlib.Core.Path.{_≡_};
-ghost use Prim.Native.Nat.{_≤_, _<_};
-ghost use lib.ListN.{length, getD};
+ghost use Prim.Native.Nat.{_<_};
+ghost use lib.ListN.{length};
 ghost use Rattle.logic.specs.Truth.{Sequence, shifted, looped};
 ghost use Rattle.row_words.specs.Row as rows;
-ghost use Rattle.row_words.specs.Writing.{RowFor, literal};
+ghost use Rattle.row_words.specs.Writing.{RowFor};
 use row_words::row_word::bit;
 use row_words::row_word::constant;
 use row_words::row_word::filled;
-use row_words::row_word::letters;
 use row_words::row_word::shift;
 
 pub fn write_constant(row: &mut [u64], positions: usize, value: bool)
@@ -23,19 +22,6 @@ pub fn write_constant(row: &mut [u64], positions: usize, value: bool)
         w += 1;
     }
     row[last] = constant(value, filled(positions, last));
-}
-
-pub fn write_letter(row: &mut [u64], samples: &[u32], letter: u32, positive: bool)
-    requires { ⌜ RowFor (length (now samples)) (now row) ⌝ }
-    requires { ⌜ (1 ≤ letter) × (letter ≤ 32) ⌝ }
-    ensures { λ _. ⌜ now (row .exit)
-        ≡ rows.row (length (now (samples .entry))) (λ i. literal letter positive (getD (now (samples .entry)) i 0)) ⌝ }
-{
-    let mut w = 0;
-    while w < row.len() {
-        row[w] = letters(samples, w * 64, filled(samples.len(), w), letter, positive);
-        w += 1;
-    }
 }
 
 // Each position takes the next one's value, and the last one what comes in at the end.

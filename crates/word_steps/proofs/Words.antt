@@ -16,6 +16,7 @@ use Rattle.row_words.specs.Row.{digit, packBits, nowhere}
 use Rattle.row_words.proofs.Bits.{bit-pack, bit-above, and-digits, xor-digits, pack-lt, pack-ext, pack-and, pack-or, pack-not, pack-zeros, pack-top, packed-all}
 use Rattle.row_words.proofs.Words.{last-bit}
 use Rattle.row_words.proofs.Sweep.{sweep-ext, sweep-none, sweep-carry}
+use Rattle.word_steps.specs.Carried.{carriedIn}
 
 pub pack-implies : (A B : Sequence) (i n : ℕ) → bitOr (bitXor (2 ^ n - 1) (packBits A i n)) (packBits B i n) ≡ packBits (λ k. not (A k) || B k) i n
 pack-implies A B i n = ap (λ (x : ℕ). bitOr x (packBits B i n)) (pack-not A i n) ∙ pack-or (λ k. not (A k)) B i n
@@ -129,13 +130,11 @@ first-law G P i n g p q all carry few eq ea eg ep =
 
 -- ---- the carry taken in
 
--- a carry that the last of the positions before e takes in as a goal
-abbrev carriedIn : Sequence → Sequence → Bool → ℕ → Sequence
-carriedIn G P c e k = G k || (P k && (eqb (suc k) e && c))
-
-sweep-carried : (G P : Sequence) (c : Bool) (e k m : ℕ) → k + suc m ≡ e → sweep (carriedIn G P c e) P false k (suc m) ≡ sweep G P c k (suc m)
+-- a sweep for goals that have taken the carry in needs none
+pub sweep-carried : (G P : Sequence) (c : Bool) (e k m : ℕ) → 1 ≤ m → k + m ≡ e → sweep (carriedIn G P c e) P false k m ≡ sweep G P c k m
 unfolding sweep
-sweep-carried G P c e k zero h =
+sweep-carried G P c e k zero some h = absurd (omega arith)
+sweep-carried G P c e k (suc zero) some h =
     ap (λ (b : Bool). (G k || (P k && (b && c))) || (P k && false)) (eq-eqb (suc k) e (omega arith)) ∙ last (G k) (P k) c
   where
     last : (a b c : Bool) → (a || (b && (true && c))) || (b && false) ≡ a || (b && c)
@@ -143,8 +142,8 @@ sweep-carried G P c e k zero h =
     last false true true = refl
     last false true false = refl
     last false false c = refl
-sweep-carried G P c e k (suc m) h =
-    ap₂ (λ (b s : Bool). (G k || (P k && (b && c))) || (P k && s)) (ne-eqb (suc k) e (λ q. omega arith)) (sweep-carried G P c e (suc k) m (omega arith))
+sweep-carried G P c e k (suc (suc m)) some h =
+    ap₂ (λ (b s : Bool). (G k || (P k && (b && c))) || (P k && s)) (ne-eqb (suc k) e (λ q. omega arith)) (sweep-carried G P c e (suc k) (suc m) (omega arith) (omega arith))
     ∙ inner (G k) (P k) (sweep G P c (suc k) (suc m))
   where
     inner : (a b s : Bool) → (a || (b && (false && c))) || (b && s) ≡ a || (b && s)
@@ -163,19 +162,11 @@ pack-carry true i n h =
 pack-carry false i n h =
     ap (λ (y : ℕ). y % 2 ^ 64) (zero-mul (2 ^ (suc n - 1))) ∙ pack-zeros i (suc n) ∙ pack-ext _ (λ k. eqb (suc k) (i + suc n) && false) i i (suc n) (λ k l. sym (and-false (eqb (suc (i + k)) (i + suc n))))
 
-module _ (G P : Sequence) (i n : ℕ) (carry : Bool) (some : 1 ≤ n) where
-  pub goal-carried : (g p c : ℕ) → n ≤ 64 → c ≡ digit carry → g ≡ packBits G i n → p ≡ packBits P i n
-      → bitOr g (bitAnd p (c * 2 ^ (n - 1) % 2 ^ 64)) ≡ packBits (carriedIn G P carry (i + n)) i n
-  goal-carried g p c few ec eg ep =
-      let m : n ≡ suc (n - 1) = omega arith in
-      let top : c * 2 ^ (n - 1) % 2 ^ 64 ≡ packBits (λ k. eqb (suc k) (i + n) && carry) i n =
-      ap (λ (x : ℕ). x * 2 ^ (n - 1) % 2 ^ 64) ec
-      ∙ subst (λ (x : ℕ). digit carry * 2 ^ (x - 1) % 2 ^ 64 ≡ packBits (λ k. eqb (suc k) (i + x) && carry) i x) (sym m) (pack-carry carry i (n - 1) (omega arith)) in
-      ap₂ bitOr eg (ap₂ bitAnd ep top ∙ pack-and P (λ k. eqb (suc k) (i + n) && carry) i n) ∙ pack-or G (λ k. P k && (eqb (suc k) (i + n) && carry)) i n
-
-  pub swept-law : (r : ℕ) → r ≡ packBits (λ k. sweep (carriedIn G P carry (i + n)) P false k (i + n - k)) i n → r ≡ packBits (λ k. sweep G P carry k (i + n - k)) i n
-  swept-law r e =
-      e
-      ∙ pack-ext _ (λ k. sweep G P carry k (i + n - k)) i i n
-      (λ k l. let m : i + n - (i + k) ≡ suc (i + n - (i + k) - 1) = omega arith in
-      rw m (sweep-carried G P carry (i + n) (i + k) (i + n - (i + k) - 1) (omega arith)))
+pub goal-carried : (G P : Sequence) (i n g p c : ℕ) (carry : Bool) → 1 ≤ n → n ≤ 64 → c ≡ digit carry → g ≡ packBits G i n → p ≡ packBits P i n
+    → bitOr g (bitAnd p (c * 2 ^ (n - 1) % 2 ^ 64)) ≡ packBits (carriedIn G P carry (i + n)) i n
+goal-carried G P i n g p c carry some few ec eg ep =
+    let m : n ≡ suc (n - 1) = omega arith in
+    let top : c * 2 ^ (n - 1) % 2 ^ 64 ≡ packBits (λ k. eqb (suc k) (i + n) && carry) i n =
+    ap (λ (x : ℕ). x * 2 ^ (n - 1) % 2 ^ 64) ec
+    ∙ subst (λ (x : ℕ). digit carry * 2 ^ (x - 1) % 2 ^ 64 ≡ packBits (λ k. eqb (suc k) (i + x) && carry) i x) (sym m) (pack-carry carry i (n - 1) (omega arith)) in
+    ap₂ bitOr eg (ap₂ bitAnd ep top ∙ pack-and P (λ k. eqb (suc k) (i + n) && carry) i n) ∙ pack-or G (λ k. P k && (eqb (suc k) (i + n) && carry)) i n

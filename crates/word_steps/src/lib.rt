@@ -5,6 +5,7 @@ ghost use Prim.Native.Nat.{ℕ, _+_, _-_, _≤_};
 ghost use Rattle.logic.specs.Truth.{Sequence, sweep, across};
 ghost use Rattle.row_words.specs.Row as rows;
 ghost use Rattle.row_words.specs.Writing.{joins};
+ghost use Rattle.word_steps.specs.Carried.{carriedIn};
 use row_words::connective::Connective;
 use row_words::row_word::ones;
 use std::num::wrapping_add_u64;
@@ -64,13 +65,13 @@ pub fn first(g: u64, p: u64, carry: bool, n: usize) -> bool
     reached | (kept & carry)
 }
 
-// A backward sweep of n positions with the carry taken in: at the last of them it is as good as the goal, if p holds there.
-pub fn swept(g: u64, p: u64, carry: bool, n: usize) -> u64
+// The goal of a backward sweep of n positions with the carry taken in: at the last of them it is as good as the goal, if p holds there.
+pub fn carried(g: u64, p: u64, carry: bool, n: usize) -> u64
     requires { ⌜ (1 ≤ n) × (n ≤ 64) ⌝ }
     ensures { λ r. ⌜ ((G P : Sequence) (i : ℕ)
         → g ≡ rows.packBits G i n
         → p ≡ rows.packBits P i n
-        → r ≡ rows.packBits (λ k. sweep G P carry k (i + n - k)) i n) ⌝ }
+        → r ≡ rows.packBits (carriedIn G P carry (i + n)) i n) ⌝ }
 {
-    closed(g | (p & ((carry as u64) << (n - 1))), p)
+    g | (p & ((carry as u64) << (n - 1)))
 }

@@ -1,4 +1,5 @@
 use Prim.Native.Nat.{_-_}
+use native.Mathlib.Omega.{arith}
 use mathlib.Core.Path.{_≡_}
 use lib.ListN.{length, length-set}
 use borrow.Author.Needs.{needs}
@@ -13,10 +14,10 @@ chain-spec =
     (λ t₀ n k₀ t k. length t₀ - k)
     (search needs)
     (search needs)
-    (search needs)
-    (search needs)
-    (search needs)
-    (search needs)
+    (omega arith)
+    (omega arith)
+    (omega arith)
+    (omega arith)
     (λ c. simp length-set (c .before .before .loop .inv))
     (search needs)
     (search needs))

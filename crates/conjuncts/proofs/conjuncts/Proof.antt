@@ -57,7 +57,7 @@ conjuncts-spec =
     Inv-loop
     μ-loop
     loop-holds
-    (search needs)
+    (omega arith)
     (λ c. c .before .loop-test .taken)
     (search needs)
     (λ c. omega (arith, c .before .before .before .loop-test .taken))

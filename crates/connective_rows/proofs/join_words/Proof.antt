@@ -50,6 +50,6 @@ pub join-words-spec : {M : Type 1} → statement M
 join-words-spec =
     tie.close
     (tie.spec
-    Inv-loop μ-loop (search needs) loop-holds (search needs) (search needs) (search needs) (search needs) (search needs)
-    (search needs) (search needs) (search needs) (search needs) loop-again (search needs) (search needs) (search needs)
-    (search needs) (search needs) (search needs) (search needs) (search needs) same-length returns)
+    Inv-loop μ-loop (omega arith) loop-holds (omega arith) (omega arith) (omega arith) (omega arith) (search needs)
+    (omega arith) (omega arith) (omega arith) (omega arith) loop-again (omega arith) (omega arith) (omega arith)
+    (omega arith) (search needs) (search needs) (omega arith) (omega arith) same-length returns)

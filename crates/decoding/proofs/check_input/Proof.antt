@@ -1,6 +1,5 @@
 use Prim.Native.Nat.{_+_, _%_}
 use native.Mathlib.Omega.{arith}
-use borrow.Author.Needs.{needs}
 use borrow.Author.Tests.{ne-eqb, eq-eqb}
 use Rattle.table.specs.StepChecks.{inputChecks}
 use Rattle.decoding.proofs.check_input.Statement.{statement}
@@ -15,4 +14,4 @@ unfolding inputChecks
 returns-2 c = rw (eq-eqb ((c .before .args .first + c .before .args .rest) % 4) 0 (omega (arith, c .if1 .left)))
 
 pub check-input-spec : {M : Type 1} → statement M
-check-input-spec = tie.close (tie.spec (search needs) returns returns-2)
+check-input-spec = tie.close (tie.spec (omega arith) returns returns-2)

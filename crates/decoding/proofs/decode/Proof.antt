@@ -48,10 +48,10 @@ decode-spec =
     μ-loop
     loop-holds
     (search needs)
-    (search needs)
-    (search needs)
-    (search needs)
-    (search needs)
+    (omega arith)
+    (omega arith)
+    (omega arith)
+    (omega arith)
     loop-again
     same-length
     returns)

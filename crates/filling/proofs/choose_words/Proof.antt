@@ -63,12 +63,12 @@ choose-words-spec =
     Inv-loop
     μ-loop
     loop-holds
-    (search needs)
+    (omega arith)
     (λ c. c .before .loop-test .taken)
     (search needs)
     (λ c. omega (arith, c .before .before .before .loop-test .taken))
     chosen-requires
-    (search needs)
+    (omega arith)
     (λ c. c .before .before .before .before .before .loop-test .taken)
     (λ c. omega (arith, c .before .before .before .before .before .loop-test .taken))
     choose-word-requires

@@ -24,8 +24,8 @@ fill-spec =
     tie.close
     (tie.spec
     (λ c κs. c .before .before .before .before .pre)
-    (search needs)
-    (search needs)
+    (omega arith)
+    (omega arith)
     conjuncts-requires
     conjuncts-requires-2
     (λ c. omega (arith, c .before .before .conjuncts2 .ensures .after, c .before .before .before .before .before .before .conjuncts .ensures .after))

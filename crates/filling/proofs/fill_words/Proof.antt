@@ -56,7 +56,7 @@ fill-words-spec =
     (search needs)
     (λ c. simp length-set (omega (arith, c .before .before .before .before .pre .long)))
     loop-holds
-    (search needs)
+    (omega arith)
     (λ c. c .before .loop-test .taken)
     (λ c. omega (arith, c .before .loop-test .taken))
     fill-word-requires

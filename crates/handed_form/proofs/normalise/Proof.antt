@@ -1,4 +1,5 @@
 use borrow.Author.Needs.{needs}
+use native.Mathlib.Omega.{arith}
 use mathlib.Core.Path.{refl, sym, ap, _∙_}
 use denote.Ref.{now}
 use Rattle.refusals.specs.declared.Report.{Report}
@@ -52,6 +53,6 @@ pub normalise-spec : {M : Type 1} → statement M
 normalise-spec =
     tie.close
     (tie.spec
-    (search needs) (search needs) (search needs) (search needs) (search needs) (search needs) (search needs) (search needs) (search needs)
-    part-source-end (search needs) (search needs) (search needs)
+    (search needs) (search needs) (search needs) (omega arith) (search needs) (search needs) (search needs) (omega arith) (search needs)
+    part-source-end (search needs) (omega arith) (search needs)
     part-result-end-2 returns returns-2 returns-3)

@@ -25,15 +25,15 @@ add-spec =
     tie.close
     (tie.spec
     (search needs)
+    (omega arith)
+    (omega arith)
+    (omega arith)
     (search needs)
-    (search needs)
-    (search needs)
-    (search needs)
-    (search needs)
-    (search needs)
-    (search needs)
-    (search needs)
-    (search needs)
+    (omega arith)
+    (omega arith)
+    (omega arith)
+    (omega arith)
+    (omega arith)
     slice-write-index-2
     slice-write-index-3
     (search needs)

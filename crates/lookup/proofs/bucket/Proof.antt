@@ -1,7 +1,6 @@
 -- The product of the hash and the number of buckets fits.
 use mathlib.Core.Path.{refl}
 use native.Mathlib.Omega.{arith}
-use borrow.Author.Needs.{needs}
 use Rattle.lookup.specs.Index.{hashOf, bucketOf}
 use Rattle.lookup.proofs.Laws.{part-le, bucket-lt}
 use Rattle.lookup.proofs.bucket.Statement.{statement}
@@ -16,4 +15,4 @@ unfolding bucketOf hashOf
 returns c = (refl, bucket-lt (c .args .half) (c .args .w) (c .pre .0))
 
 pub bucket-spec : {M : Type 1} → statement M
-bucket-spec = tie.close (tie.spec (search needs) mul-result-2 returns)
+bucket-spec = tie.close (tie.spec (omega arith) mul-result-2 returns)

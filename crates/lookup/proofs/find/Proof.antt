@@ -58,17 +58,17 @@ find-spec =
     Inv-loop
     μ-loop
     (search needs)
-    (search needs)
-    (search needs)
-    (search needs)
+    (omega arith)
+    (omega arith)
+    (omega arith)
     (search needs)
     loop-holds
-    (search needs)
-    (search needs)
-    (search needs)
+    (omega arith)
+    (omega arith)
+    (omega arith)
     returns
-    (search needs)
-    (search needs)
+    (omega arith)
+    (omega arith)
     (search needs)
     loop-less
     loop-again

@@ -106,18 +106,18 @@ parse-spec =
     Inv-loop
     μ-loop
     loop-holds
-    (search needs)
+    (omega arith)
     step-requires
-    (search needs)
+    (omega arith)
     is-stuck-requires
     (search needs)
     (search needs)
     (search needs)
     returns
-    (search needs)
+    (omega arith)
     loop-again
     step-requires-2
-    (search needs)
+    (omega arith)
     (search needs)
     (search needs)
     (search needs)

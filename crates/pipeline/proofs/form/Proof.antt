@@ -1,4 +1,5 @@
 use mathlib.Core.Path.{sym, _∙_}
+use native.Mathlib.Omega.{arith}
 use denote.Ref.{now}
 use borrow.Author.Needs.{needs}
 use Rattle.claims.proofs.Promise.{within, claimed-refused, claimed-made}
@@ -31,7 +32,7 @@ form-spec =
     (search needs)
     (search needs)
     (search needs)
-    (search needs)
+    (omega arith)
     (search needs)
     part-form-end
     (search needs)

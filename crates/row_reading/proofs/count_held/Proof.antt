@@ -1,5 +1,4 @@
 -- The loop has counted the positions of the words passed.
-use borrow.Author.Needs.{needs}
 use mathlib.Core.Path.{_≡_, _∙_}
 use Prim.Native.Nat.{ℕ, _≤_, _-_, _*_, min}
 use native.Mathlib.Omega.{arith}
@@ -41,5 +40,5 @@ pub count-held-spec : {M : Type 1} → statement M
 count-held-spec =
     tie.close
     (tie.spec
-    Inv-loop μ-loop loop-holds (search needs) (search needs) cast-held add-held (search needs) (search needs)
+    Inv-loop μ-loop loop-holds (omega arith) (omega arith) cast-held add-held (omega arith) (omega arith)
     loop-again returns)

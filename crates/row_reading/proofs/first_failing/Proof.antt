@@ -57,5 +57,5 @@ pub first-failing-spec : {M : Type 1} → statement M
 first-failing-spec =
     tie.close
     (tie.spec
-    Inv-loop μ-loop loop-holds (search needs) (search needs) (search needs) (search needs) (search needs) cast-result
-    add-result returns (search needs) (search needs) loop-again returns-2)
+    Inv-loop μ-loop loop-holds (search needs) (search needs) (omega arith) (omega arith) (omega arith) cast-result
+    add-result returns (omega arith) (omega arith) loop-again returns-2)

@@ -1,4 +1,5 @@
 -- The bit of a position is the value there.
+use native.Mathlib.Omega.{arith}
 use mathlib.Core.Path.{_∙_}
 use Rattle.rows.proofs.Rows.{row-bit}
 use borrow.Author.Needs.{needs}
@@ -9,4 +10,4 @@ returns : tie.Need-returns
 returns c L f e h = c .bit .ensures ∙ row-bit L f _ e _ h
 
 pub holds-at-spec : {M : Type 1} → statement M
-holds-at-spec = tie.close (tie.spec (search needs) (search needs) (search needs) returns)
+holds-at-spec = tie.close (tie.spec (omega arith) (omega arith) (search needs) returns)

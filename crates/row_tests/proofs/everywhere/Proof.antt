@@ -50,5 +50,5 @@ pub everywhere-spec : {M : Type 1} → statement M
 everywhere-spec =
     tie.close
     (tie.spec
-    Inv-loop μ-loop (search needs) loop-holds (search needs) (search needs) (search needs) (search needs) (search needs) (search needs)
-    loop-again (search needs) (search needs) (search needs) (search needs) (search needs) (search needs) returns)
+    Inv-loop μ-loop (omega arith) loop-holds (omega arith) (omega arith) (omega arith) (omega arith) (omega arith) (omega arith)
+    loop-again (omega arith) (omega arith) (omega arith) (omega arith) (search needs) (search needs) returns)

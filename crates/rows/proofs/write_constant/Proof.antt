@@ -39,5 +39,5 @@ pub write-constant-spec : {M : Type 1} → statement M
 write-constant-spec =
     tie.close
     (tie.spec
-    Inv-loop μ-loop (search needs) loop-holds (search needs) (search needs) (search needs) (search needs) (search needs)
-    loop-again (search needs) (search needs) (search needs) (search needs) same-length returns)
+    Inv-loop μ-loop (omega arith) loop-holds (search needs) (omega arith) (omega arith) (omega arith) (omega arith)
+    loop-again (search needs) (search needs) (omega arith) (omega arith) same-length returns)

@@ -16,4 +16,4 @@ returns c F A e =
     ∙ ap (λ (b : Bool). rows.row L (rows.next L A b)) (c .before .before .before .before .bit .ensures ∙ row-bit L A _ e (start .args .start) (omega arith))
 
 pub write-next-spec : {M : Type 1} → statement M
-write-next-spec = tie.close (tie.spec (search needs) (search needs) (search needs) (search needs) (search needs) returns)
+write-next-spec = tie.close (tie.spec (omega arith) (omega arith) (search needs) (search needs) (search needs) returns)

@@ -78,9 +78,9 @@ close-spec =
     (tie.spec
     stuck-requires
     returns
-    (search needs)
-    (search needs)
-    (search needs)
+    (omega arith)
+    (omega arith)
+    (omega arith)
     stuck-requires-2
     returns-2
     kind-requires

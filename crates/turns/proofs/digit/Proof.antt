@@ -24,4 +24,4 @@ returns-3 c = (digit-in _ (omega (arith, c .before .if1 .left)) (c .if2 .left), 
 pub digit-spec : {M : Type 1} → statement M
 digit-spec =
     tie.close
-    (tie.spec (search needs) (search needs) (search needs) stuck-requires returns stuck-requires-2 returns-2 returns-3)
+    (tie.spec (omega arith) (omega arith) (omega arith) stuck-requires returns stuck-requires-2 returns-2 returns-3)

@@ -31,13 +31,13 @@ join-spec =
     (tie.spec
     stuck-requires
     returns
-    (search needs)
-    (search needs)
-    (search needs)
+    (omega arith)
+    (omega arith)
+    (omega arith)
     stuck-requires-2
     returns-2
     pack-requires
-    (search needs)
-    (search needs)
+    (omega arith)
+    (omega arith)
     (search needs)
     returns-3)

@@ -1,4 +1,5 @@
 -- An entry above the top.
+use native.Mathlib.Omega.{arith}
 use native.Mathlib.Numerals.{add-one}
 use Rattle.turns.proofs.Making.{top-push}
 use borrow.Author.Needs.{needs}
@@ -9,4 +10,4 @@ returns : tie.Need-returns
 returns c = (rw add-one, top-push _ _ _ (c .pre))
 
 pub push-spec : {M : Type 1} → statement M
-push-spec = tie.close (tie.spec (search needs) (search needs) (search needs) (search needs) returns)
+push-spec = tie.close (tie.spec (omega arith) (omega arith) (omega arith) (search needs) returns)

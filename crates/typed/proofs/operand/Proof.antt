@@ -1,7 +1,6 @@
 use native.Mathlib.Omega.{arith}
 use lib.ListN.{take}
 use lib.Seq.{length-take-le}
-use borrow.Author.Needs.{needs}
 use Rattle.typed.proofs.Counting.{earlier-none, earlier-past, earlier-at}
 use Rattle.typed.proofs.operand.Statement.{statement}
 use Rattle.typed.proofs.operand.Tie as tie
@@ -22,4 +21,4 @@ returns-3 c =
 pub operand-spec : {M : Type 1} → statement M
 operand-spec =
     tie.close
-    (tie.spec returns returns-2 (search needs) (search needs) (search needs) returns-3)
+    (tie.spec returns returns-2 (omega arith) (omega arith) (omega arith) returns-3)

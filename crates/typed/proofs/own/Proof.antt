@@ -1,7 +1,7 @@
 use Prim.Native.Nat.{_<_}
+use native.Mathlib.Omega.{arith}
 use mathlib.Core.Path.{refl}
 use lib.Dec.{ltb, ltb→lt}
-use borrow.Author.Needs.{needs}
 use Rattle.logic.proofs.Tests.{allPass, pass-at}
 use Rattle.typed.specs.Typed.{owns}
 use Rattle.typed.proofs.own.Statement.{statement}
@@ -12,4 +12,4 @@ unfolding allPass
 returns c = (refl, pass-at (λ x. ltb x 7) (λ x. x < 7) (λ x. ltb→lt x 7) owns tt (c .args .kind) (c .pre) 0)
 
 pub own-spec : {M : Type 1} → statement M
-own-spec = tie.close (tie.spec (search needs) (search needs) returns)
+own-spec = tie.close (tie.spec (omega arith) (omega arith) returns)

@@ -64,17 +64,17 @@ sizes-spec =
     Inv-loop
     μ-loop
     loop-holds
-    (search needs)
-    (search needs)
+    (omega arith)
+    (omega arith)
     (search needs)
     operand-requires
     (search needs)
     operand-requires-2
     (search needs)
-    (search needs)
-    (search needs)
-    (search needs)
-    (search needs)
+    (omega arith)
+    (omega arith)
+    (omega arith)
+    (omega arith)
     loop-again
     (search needs)
     returns)

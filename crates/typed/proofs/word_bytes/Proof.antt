@@ -52,11 +52,11 @@ word-bytes-spec =
     sort-requires
     (search needs)
     (search needs)
+    (omega arith)
+    (omega arith)
     (search needs)
-    (search needs)
-    (search needs)
-    (search needs)
-    (search needs)
+    (omega arith)
+    (omega arith)
     (search needs)
     returns
     returns-2

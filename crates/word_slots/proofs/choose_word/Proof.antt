@@ -12,13 +12,13 @@ pub choose-word-spec : {M : Type 1} → statement M
 choose-word-spec =
     tie.close
     (tie.spec
+    (omega arith)
     (search needs)
+    (omega arith)
+    (omega arith)
     (search needs)
-    (search needs)
-    (search needs)
-    (search needs)
-    (search needs)
-    (search needs)
+    (omega arith)
+    (omega arith)
     (λ c. simp length-set (omega arith))
     (λ c. simp length-set)
     returns)

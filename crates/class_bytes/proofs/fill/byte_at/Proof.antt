@@ -1,4 +1,5 @@
 -- An operand's byte stands in its place, since a word's operands are earlier words.
+use native.Mathlib.Omega.{arith}
 use Prim.Native.Nat.{ℕ, _-_}
 use mathlib.Core.Path.{refl, ap, ap₂, _∙_}
 use lib.ListN.{getD}
@@ -60,8 +61,8 @@ pub byte-at-spec : {M : Type 1} → statement M
 byte-at-spec =
     tie.close
     (tie.spec
-    (search needs)
-    (search needs)
+    (omega arith)
+    (omega arith)
     (search needs)
     of-requires
     (search needs)

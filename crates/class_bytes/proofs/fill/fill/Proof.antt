@@ -66,9 +66,9 @@ fill-spec =
     μ-loop
     (search needs)
     byte-at-requires
-    (search needs)
-    (search needs)
-    (search needs)
+    (omega arith)
+    (omega arith)
+    (omega arith)
     loop-again
     (search needs)
     returns)

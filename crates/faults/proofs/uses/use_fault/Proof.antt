@@ -1,5 +1,4 @@
 -- The invariant: what is left to ask is the use of word n and of those after it.
-use borrow.Author.Needs.{needs}
 use Prim.Native.Nat.{_-_, _<_}
 use mathlib.Core.Path.{_≡_, refl, sym, ap, _∙_}
 use native.Mathlib.Numerals.{add-one}
@@ -36,9 +35,9 @@ use-fault-spec =
     Inv-loop
     μ-loop
     loop-holds
-    (search needs)
+    (omega arith)
     returns
-    (search needs)
-    (search needs)
+    (omega arith)
+    (omega arith)
     loop-again
     returns-2)

@@ -50,14 +50,14 @@ pub word-fault-spec : {M : Type 1} → statement M
 word-fault-spec =
     tie.close
     (tie.spec
-    (search needs)
-    (search needs)
-    (search needs)
+    (omega arith)
+    (omega arith)
+    (omega arith)
     (search needs)
     (search needs)
     (search needs)
     find-requires
-    (search needs)
+    (omega arith)
     (search needs)
     (search needs)
     returns

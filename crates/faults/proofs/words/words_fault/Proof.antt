@@ -71,8 +71,8 @@ words-fault-spec =
     (search needs)
     returns
     (search needs)
-    (search needs)
-    (search needs)
+    (omega arith)
+    (omega arith)
     loop-again
     (search needs)
     (search needs)

@@ -47,10 +47,10 @@ put-spec =
     (search needs)
     (search needs)
     returns-3
-    (search needs)
-    (search needs)
+    (omega arith)
+    (omega arith)
     add-requires
-    (search needs)
+    (omega arith)
     (search needs)
     (search needs)
     returns-4)

@@ -1,4 +1,5 @@
 use borrow.Author.Needs.{needs}
+use native.Mathlib.Omega.{arith}
 use mathlib.Core.Path.{_≡_}
 use lib.ListN.{length}
 use Rattle.printing.proofs.form.pieces.Statement.{statement}
@@ -18,8 +19,8 @@ pieces-spec =
     μ-loop
     (search needs)
     (search needs)
-    (search needs)
-    (search needs)
+    (omega arith)
+    (omega arith)
     (search needs)
     (search needs)
     (search needs)

@@ -1,4 +1,5 @@
 use borrow.Author.Needs.{needs}
+use native.Mathlib.Omega.{arith}
 use Prim.Native.Nat.{_-_}
 use lib.ListN.{length}
 use Rattle.printing.proofs.report.words.Statement.{statement}
@@ -20,12 +21,12 @@ words-spec =
     (search needs)
     (search needs)
     (search needs)
+    (omega arith)
+    (omega arith)
     (search needs)
     (search needs)
     (search needs)
-    (search needs)
-    (search needs)
-    (search needs)
-    (search needs)
+    (omega arith)
+    (omega arith)
     (search needs)
     (search needs))

@@ -1,4 +1,5 @@
 use mathlib.Core.Path.{_≡_}
+use native.Mathlib.Omega.{arith}
 use lib.ListN.{length}
 use borrow.Author.Needs.{needs}
 use Rattle.rule_text.proofs.buffer.fill.Statement.{statement}
@@ -22,8 +23,8 @@ fill-spec =
     (search needs)
     (search needs)
     (search needs)
-    (search needs)
-    (search needs)
+    (omega arith)
+    (omega arith)
     (search needs)
     (search needs)
     (search needs)

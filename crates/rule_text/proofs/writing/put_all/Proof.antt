@@ -1,4 +1,5 @@
 use Prim.Native.Nat.{_-_}
+use native.Mathlib.Omega.{arith}
 use mathlib.Core.Path.{_≡_}
 use lib.ListN.{length}
 use borrow.Author.Needs.{needs}
@@ -12,10 +13,10 @@ put-all-spec =
     (λ out₀ used s at₀ i₀ out at i. length out ≡ length out₀)
     (λ out₀ used s at₀ i₀ out at i. length s - i)
     (search needs)
+    (omega arith)
     (search needs)
-    (search needs)
-    (search needs)
-    (search needs)
+    (omega arith)
+    (omega arith)
     (search needs)
     (search needs)
     (search needs))

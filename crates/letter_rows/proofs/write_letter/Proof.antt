@@ -6,9 +6,9 @@ use native.Mathlib.Omega.{arith}
 use lib.ListN.{length, length-set, getD}
 use Rattle.row_words.specs.Row as rows
 use Rattle.row_words.specs.Writing.{literal}
 use Rattle.rows.proofs.Rows.{pack-word, written-none, written-row, written-up}
-use Rattle.rows.proofs.write_letter.Statement.{statement}
-use Rattle.rows.proofs.write_letter.Tie as tie
+use Rattle.letter_rows.proofs.write_letter.Statement.{statement}
+use Rattle.letter_rows.proofs.write_letter.Tie as tie
 
 abbrev Inv-loop : tie.InvT-loop
 Inv-loop row₀ samples letter positive w₀ row w = (w ≤ length row) × (length row ≡ length row₀) × rows.Written (length samples) (λ i. literal letter positive (getD samples i 0)) 0 w row
@@ -37,5 +37,5 @@ pub write-letter-spec : {M : Type 1} → statement M
 write-letter-spec =
     tie.close
     (tie.spec
-    Inv-loop μ-loop loop-holds (search needs) (search needs) (search needs) (search needs) (search needs)
-    (search needs) loop-less loop-again (search needs) returns)
+    Inv-loop μ-loop loop-holds (omega arith) (search needs) (search needs) (omega arith) (omega arith)
+    (omega arith) loop-less loop-again (search needs) returns)

@@ -10,9 +10,9 @@ use Rattle.row_words.specs.Row as rows
 use Rattle.row_words.proofs.Sweep.{sweep-done}
 use Rattle.word_steps.proofs.Words.{kept-law}
 use Rattle.rows.proofs.Rows.{goal-reached, keep-failed, word-passed}
-use Rattle.row_sweeps.proofs.Sweeps.{word-from}
-use Rattle.row_sweeps.proofs.value_at.Statement.{statement}
-use Rattle.row_sweeps.proofs.value_at.Tie as tie
+use Rattle.sweep_values.proofs.Shifted.{word-from}
+use Rattle.sweep_values.proofs.value_at.Statement.{statement}
+use Rattle.sweep_values.proofs.value_at.Tie as tie
 
 abbrev Inv-loop : tie.InvT-loop
 Inv-loop g p positions from end i₀ i =

@@ -1,0 +1,2 @@
+-- Letters of samples, packed.
+pub mod Packed

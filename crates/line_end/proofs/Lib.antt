@@ -1,0 +1,2 @@
+-- What is left of a text without its line end.
+pub mod Ends

@@ -1,0 +1,2 @@
+-- The final line end of a text.
+pub mod LineEnd

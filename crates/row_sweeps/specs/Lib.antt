@@ -1,0 +1,2 @@
+-- What the first pass of a sweep makes of a row.
+pub mod Carried

@@ -1,0 +1,2 @@
+-- The words from a position on.
+pub mod Shifted
