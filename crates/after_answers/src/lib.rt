@@ -7,7 +7,7 @@ ghost use Rattle.table.specs.Checks.{checked};
 ghost use Rattle.table.specs.Header.{headed};
 ghost use Rattle.table.specs.Steps.{afterTable};
 ghost use Rattle.placing.specs.Written.{Written};
-ghost use Rattle.heading.specs.Finished.{Given};
+ghost use Rattle.headed_answers.specs.Finished.{Given};
 
 // What remains of accepted words, under its header.
 pub fn answer(words: &[u32], sample: u32, result: &mut [u32]) -> Answer
@@ -15,10 +15,10 @@ pub fn answer(words: &[u32], sample: u32, result: &mut [u32]) -> Answer
     ensures { λ r. ⌜ Given (headed (afterTable sample (now (words .entry)))) (now (result .entry)) (now (result .exit)) r ⌝ }
 {
     if result.len() == 0 {
-        return heading::finish(result, 0);
+        return headed_answers::finish(result, 0);
     }
     let n = write(words, sample, &mut result[1..]);
-    heading::finish(result, n)
+    headed_answers::finish(result, n)
 }
 
 // The table at the front of the result, and its length; 0 where it does not fit. It has no more words than the draft has slots, so no

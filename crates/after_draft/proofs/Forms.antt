@@ -11,8 +11,8 @@ use lib.Dec.{eqb}
 use Rattle.logic.specs.Formula.{Formula, Binary, un, bin, next, conj, disj, until, weak, release, strong}
 use Rattle.logic.specs.Lasso.{letterIn}
 use Rattle.logic.specs.Letters.{Letters}
-use Rattle.logic.specs.Folding.{fold}
-use Rattle.logic.specs.After.{afterBinary, after}
+use Rattle.transforms.specs.Folding.{fold}
+use Rattle.transforms.specs.After.{afterBinary, after}
 use Rattle.logic.proofs.Numbers.{in-range}
 use Rattle.table.specs.Node.{Shape, constant, letter, binary, shape, binaryKind, kindOf, rightField}
 use Rattle.table.specs.Checks.{isOperand}

@@ -5,8 +5,8 @@ use mathlib.Core.Bool.{true}
 use mathlib.Core.List.{List}
 use lib.ListN.{length}
 use Rattle.logic.specs.Formula.{Formula}
-use Rattle.logic.specs.Folding.{fold}
-use Rattle.logic.specs.After.{after}
+use Rattle.transforms.specs.Folding.{fold}
+use Rattle.transforms.specs.After.{after}
 use Rattle.refusals.specs.declared.Outcome.the-variants.{Accepted}
 use Rattle.table.specs.Table.{formulas, formulaOf}
 use Rattle.table.specs.Checks.{checked}

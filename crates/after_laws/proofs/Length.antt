@@ -6,8 +6,8 @@ use mathlib.Core.Path.{_≡_, refl, _∙_, subst}
 use mathlib.Core.Bool.{true}
 use mathlib.Core.List.{List}
 use lib.ListN.{length, length-set, replicate, length-replicate}
-use Rattle.logic.specs.Folding.{fold}
-use Rattle.logic.specs.After.{after}
+use Rattle.transforms.specs.Folding.{fold}
+use Rattle.transforms.specs.After.{after}
 use Rattle.refusals.specs.declared.Outcome.the-variants.{Accepted}
 use Rattle.table.specs.Table.{rule}
 use Rattle.table.specs.Checks.{checked}

@@ -12,10 +12,10 @@ use Rattle.logic.specs.Lasso.{Word}
 use Rattle.logic.specs.Letters.{Letters}
 use Rattle.logic.specs.Driven.{Driven}
 use Rattle.logic.specs.Semantics.{Holds}
-use Rattle.logic.specs.Folding.{fold}
-use Rattle.logic.specs.After.{after}
-use Rattle.logic.proofs.Folding.{fold-holds, fold-letters, fold-plain}
-use Rattle.logic.proofs.After.{after-holds, after-letters, after-same, after-plain}
+use Rattle.transforms.specs.Folding.{fold}
+use Rattle.transforms.specs.After.{after}
+use Rattle.transforms.proofs.Folding.{fold-holds, fold-letters, fold-plain}
+use Rattle.transforms.proofs.After.{after-holds, after-letters, after-same, after-plain}
 use Rattle.refusals.specs.declared.Outcome.the-variants.{Accepted}
 use Rattle.refusals.specs.Refusals.{first}
 use Rattle.table.specs.declared.answer.Answer.the-variants.{Made}

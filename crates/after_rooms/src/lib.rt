@@ -1,47 +1,15 @@
-// A draft, numbers, a stack and an index of the size that the table can need: short tables pay for no more.
-use draft::number;
-ghost use Rattle.placing.specs.State.{state};
-ghost use Rattle.after_draft.specs.Filling.{Room};
+// A draft of the size that the table can need, filled and numbered: short tables pay for no more.
 ghost use Rattle.placing.specs.Written.{Written};
 ghost use Rattle.table.specs.Steps.{afterTable};
-ghost use Rattle.draft.specs.Numberable.{Fresh};
 ghost use Rattle.after_rooms.specs.Rooms.{Asked};
-
-// With no slot numbered yet, and an index of no words.
-fn write_in(
-    table: &[u32],
-    sample: u32,
-    draft: &mut [u64],
-    numbers: &mut [u16],
-    stack: &mut [u32],
-    result: &mut [u32],
-    index: &mut [u16],
-) -> usize
-    requires { ⌜ Room (now table) (now draft) ⌝ }
-    requires { ⌜ Fresh (now draft) (now numbers) (now stack) (state (now result) (now index)) ⌝ }
-    ensures { λ r. ⌜ Written (afterTable sample (now (table .entry))) (now (result .entry)) (now (result .exit)) r ⌝ }
-{
-    after_draft::fill(table, sample, &mut *draft);
-    number::number(&*draft, 3 * table.len() + 2, numbers, stack, result, index)
-}
 
 pub fn of_64(table: &[u32], sample: u32, result: &mut [u32]) -> usize
     requires { ⌜ Asked 64 (now table) (now result) ⌝ }
     ensures { λ r. ⌜ Written (afterTable sample (now (table .entry))) (now (result .entry)) (now (result .exit)) r ⌝ }
 {
     let mut draft = [0u64; 195];
-    let mut numbers = [0u16; 195];
-    let mut stack = [0u32; 195];
-    let mut index = [0u16; 392];
-    write_in(
-        table,
-        sample,
-        &mut draft,
-        &mut numbers,
-        &mut stack,
-        result,
-        &mut index,
-    )
+    after_draft::fill(table, sample, &mut draft);
+    number_rooms::of_195(&draft, 3 * table.len() + 2, result)
 }
 
 pub fn of_512(table: &[u32], sample: u32, result: &mut [u32]) -> usize
@@ -49,18 +17,8 @@ pub fn of_512(table: &[u32], sample: u32, result: &mut [u32]) -> usize
     ensures { λ r. ⌜ Written (afterTable sample (now (table .entry))) (now (result .entry)) (now (result .exit)) r ⌝ }
 {
     let mut draft = [0u64; 1539];
-    let mut numbers = [0u16; 1539];
-    let mut stack = [0u32; 1539];
-    let mut index = [0u16; 3080];
-    write_in(
-        table,
-        sample,
-        &mut draft,
-        &mut numbers,
-        &mut stack,
-        result,
-        &mut index,
-    )
+    after_draft::fill(table, sample, &mut draft);
+    number_rooms::of_1539(&draft, 3 * table.len() + 2, result)
 }
 
 pub fn of_16383(table: &[u32], sample: u32, result: &mut [u32]) -> usize
@@ -68,16 +26,6 @@ pub fn of_16383(table: &[u32], sample: u32, result: &mut [u32]) -> usize
     ensures { λ r. ⌜ Written (afterTable sample (now (table .entry))) (now (result .entry)) (now (result .exit)) r ⌝ }
 {
     let mut draft = [0u64; 49152];
-    let mut numbers = [0u16; 49152];
-    let mut stack = [0u32; 49152];
-    let mut index = [0u16; 32768];
-    write_in(
-        table,
-        sample,
-        &mut draft,
-        &mut numbers,
-        &mut stack,
-        result,
-        &mut index,
-    )
+    after_draft::fill(table, sample, &mut draft);
+    number_rooms::of_49152(&draft, 3 * table.len() + 2, result)
 }

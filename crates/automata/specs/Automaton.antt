@@ -5,7 +5,7 @@ use mathlib.Core.Bool.{Bool}
 use mathlib.Core.Logic.{_⊎_}
 use lib.Dec.{T}
 use Rattle.logic.specs.Lasso.{Word}
-use Rattle.logic.specs.Recurrence.{InfinitelyOften}
+use Rattle.transforms.specs.Recurrence.{InfinitelyOften}
 use Rattle.automata.specs.Positive.{Positive, Subset, Minimal, Unsatisfiable}
 
 -- states among X, an initial formula, the formula that a state moves to on a sample, and the accepting states

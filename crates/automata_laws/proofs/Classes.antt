@@ -8,12 +8,12 @@ use lib.Dec.{T, T-not}
 use Rattle.logic.specs.Formula.{Formula, Unary, Binary, un, bin, neg, finally, globally, conj, disj, until, weak, release, strong, implies, isLeastOp, isGreatestOp, isJunction}
 use Rattle.logic.specs.Hierarchy.{Closing, closes, Closure, base, step, join, Atomic, Δ₀, Σ₁, Π₁, Σ₂, Π₂, Δ₂, boolean}
 use Rattle.logic.specs.ClassByte.{inΣ₁, inΠ₁, inΣ₂, inΠ₂}
-use Rattle.logic.specs.NormalForm.{keep}
-use Rattle.logic.specs.Subformula.{Sub, self, under, left, right}
+use Rattle.transforms.specs.NormalForm.{keep}
+use Rattle.transforms.specs.Subformula.{Sub, self, under, left, right}
 use Rattle.logic.proofs.Tests.{T-and, T-decided}
 use Rattle.logic.proofs.Hierarchy.Closure.{atomic-decided}
 use Rattle.logic.proofs.Hierarchy.ClassBit.{Σ₁-decided, Π₁-decided, Σ₂-decided, Π₂-decided}
-use Rattle.logic.proofs.Normal.Membership.{keep-mem}
+use Rattle.transforms.proofs.Normal.Membership.{keep-mem}
 use Rattle.automata_laws.specs.StateClass.{StateClass, sigma₁, pi₁, sigma₂, pi₂, isPi, inClass, below, within, every, inSome, isSmallest, smallestIn}
 use Rattle.automata_laws.specs.FormulaAutomaton.{isProper}
 

@@ -4,7 +4,7 @@ use mathlib.Core.Path.{sym, subst}
 use mathlib.Core.Logic.{inl, inr}
 use mathlib.Core.List.{List·Memᴰ}
 use Rattle.logic.specs.Formula.{Formula}
-use Rattle.logic.proofs.Normal.PlainFormula.{sub-trans}
+use Rattle.transforms.proofs.Normal.PlainFormula.{sub-trans}
 use Rattle.automata.proofs.Models.{atoms}
 use Rattle.automata_laws.specs.StateClass.{every}
 use Rattle.automata_laws.specs.FormulaAutomaton.{State, combination, moveOf, formulaAutomaton}

@@ -13,13 +13,13 @@ use Rattle.logic.specs.Lasso.{Lasso, word}
 use Rattle.logic.specs.Semantics.{Holds}
 use Rattle.logic.specs.Truth.{truth}
 use Rattle.logic.specs.Hierarchy.{Δ₂}
-use Rattle.logic.specs.NormalForm.{keep, isFixpoint}
-use Rattle.logic.specs.Recurrence.{Eventually}
-use Rattle.logic.specs.Subformula.{Sub}
+use Rattle.transforms.specs.NormalForm.{keep, isFixpoint}
+use Rattle.transforms.specs.Recurrence.{Eventually}
+use Rattle.transforms.specs.Subformula.{Sub}
 use Rattle.logic.proofs.Tests.{T-and, T-decided}
 use Rattle.logic.proofs.Lasso.Truth.{truth-holds}
-use Rattle.logic.proofs.Normal.Membership.{mem-keep, keep-mem}
-use Rattle.logic.proofs.Normal.PlainFormula.{sub-trans}
+use Rattle.transforms.proofs.Normal.Membership.{mem-keep, keep-mem}
+use Rattle.transforms.proofs.Normal.PlainFormula.{sub-trans}
 use Rattle.automata.specs.Positive.{Positive, Subset, Within, models, Minimal}
 use Rattle.automata.specs.Automaton.{Run, Accepting, Accepts}
 use Rattle.automata.proofs.Models.{atoms, minimal-same, isSame, same-eq, eq-same, listed, mem-listed, listed-mem, minimal-model, minimal-occurs}

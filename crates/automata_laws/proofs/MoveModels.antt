@@ -10,11 +10,11 @@ use Rattle.logic.specs.Formula.{Formula, Binary, const, lit, un, bin, next, neg
 use Rattle.logic.specs.Lasso.{Lasso, word, letterIn}
 use Rattle.logic.specs.Semantics.{Holds}
 use Rattle.logic.specs.Truth.{truth}
-use Rattle.logic.specs.NormalForm.{isFixpoint}
-use Rattle.logic.specs.Subformula.{Sub, self, under, left, right}
+use Rattle.transforms.specs.NormalForm.{isFixpoint}
+use Rattle.transforms.specs.Subformula.{Sub, self, under, left, right}
 use Rattle.logic.proofs.Tests.{T-and, T-or, T-beq, T-decided}
 use Rattle.logic.proofs.Lasso.Truth.{truth-holds}
-use Rattle.logic.proofs.Normal.Membership.{mem-keep, keep-mem}
+use Rattle.transforms.proofs.Normal.Membership.{mem-keep, keep-mem}
 use Rattle.automata.specs.Positive.{Positive, atom, anyOf, Subset, models}
 use Rattle.automata.proofs.Models.{any-model}
 use Rattle.automata_laws.specs.StateClass.{StateClass, inClass, within, isSmallest, smallestIn, smallestWithin}

@@ -7,9 +7,9 @@ use mathlib.Core.Bool.{Bool, true, false, cond}
 use mathlib.Core.List.{List, [], _∷_, _++_, map, List·Memᴰ, List·Memᴰ·not-nil, List·Memᴰ·cases-cons, List·Memᴰ·append-cases, List·Memᴰ·eq-of-singleton, Memᴰ·of-map}
 use lib.Dec.{T}
 use Rattle.logic.specs.Formula.{Formula, Binary, const, lit, un, bin, next, neg, finally, globally, conj, disj, until, weak, release, strong, implies}
-use Rattle.logic.specs.NormalForm.{isFixpoint}
-use Rattle.logic.specs.Subformula.{Sub, self, under, left, right}
-use Rattle.logic.proofs.Normal.Membership.{mem-keep}
+use Rattle.transforms.specs.NormalForm.{isFixpoint}
+use Rattle.transforms.specs.Subformula.{Sub, self, under, left, right}
+use Rattle.transforms.proofs.Normal.Membership.{mem-keep}
 use Rattle.automata.specs.Positive.{Positive, atom, anyOf}
 use Rattle.automata.proofs.Models.{atoms, any-atoms}
 use Rattle.automata_laws.specs.StateClass.{StateClass, sigma₁, pi₁, sigma₂, pi₂, within, isSmallest, smallestIn, smallestWithin}

@@ -9,7 +9,7 @@ use lib.ListN.{length}
 use lib.Dec.{T, not-T}
 use Rattle.logic.specs.Formula.{Formula}
 use Rattle.logic.specs.Hierarchy.{Class, Δ₂}
-use Rattle.logic.specs.NormalForm.{keep}
+use Rattle.transforms.specs.NormalForm.{keep}
 use Rattle.logic.specs.ClassByte.{inΣ₁, inΠ₁}
 use Rattle.logic.proofs.Tests.{T-and, T-or}
 use Rattle.logic.proofs.Hierarchy.ClassBit.{Σ₁-decided, Π₁-decided, Σ₂-decided, Π₂-decided}

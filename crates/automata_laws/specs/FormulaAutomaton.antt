@@ -5,7 +5,7 @@ use mathlib.Core.List.{List, map}
 use lib.Dec.{T}
 use Rattle.logic.specs.Formula.{Formula, Binary, const, lit, un, bin, next, neg, finally, globally, conj, disj, until, weak, release, strong, implies, isJunction}
 use Rattle.logic.specs.Lasso.{letterIn}
-use Rattle.logic.specs.Subformula.{Sub}
+use Rattle.transforms.specs.Subformula.{Sub}
 use Rattle.automata.specs.Positive.{Positive, constant, atom, and, or, anyOf}
 use Rattle.automata.specs.Automaton.{Automaton}
 use Rattle.automata_laws.specs.StateClass.{StateClass, isPi, within, every, isSmallest, smallestIn, smallestWithin}

@@ -4,7 +4,7 @@ use mathlib.Core.Bool.{Bool, true, false, not, _&&_, _||_}
 use mathlib.Core.List.{List, [], _∷_, _++_}
 use Rattle.logic.specs.Formula.{Formula}
 use Rattle.logic.specs.ClassByte.{inΣ₁, inΠ₁, inΣ₂, inΠ₂}
-use Rattle.logic.specs.NormalForm.{keep}
+use Rattle.transforms.specs.NormalForm.{keep}
 
 -- the classes above class zero, up to the second level
 pub data StateClass : Type 0 where

@@ -8,9 +8,9 @@ use mathlib.Core.List.{List, [], _∷_, _++_, map, List·Memᴰ, List·Memᴰ·h
 use lib.ListN.{length, getD}
 use lib.Dec.{T, eqb, eqb→eq, eqb-refl}
 use Rattle.logic.specs.Formula.{Formula, same}
-use Rattle.logic.specs.NormalForm.{keep}
+use Rattle.transforms.specs.NormalForm.{keep}
 use Rattle.logic.proofs.Tests.{T-and, T-or}
-use Rattle.logic.proofs.Normal.Membership.{mem-keep, mem-of-member, member-of-mem}
+use Rattle.transforms.proofs.Normal.Membership.{mem-keep, mem-of-member, member-of-mem}
 use Rattle.automata_laws.specs.StateClass.{StateClass, sigma₁, pi₁, sigma₂, pi₂, classBit}
 use Rattle.automata_laws.specs.FormulaAutomaton.{State}
 use Rattle.automata_tables.specs.States.{isState, numberFrom, noState}

@@ -11,8 +11,8 @@ use lib.ListN.{length, getD, length-map, length-append, List·getD-append}
 use lib.Seq.{getD-append-add}
 use lib.Dec.{T}
 use Rattle.logic.specs.Formula.{Formula, const}
-use Rattle.logic.specs.NormalForm.{keep}
-use Rattle.logic.proofs.Normal.Membership.{mem-keep, keep-mem}
+use Rattle.transforms.specs.NormalForm.{keep}
+use Rattle.transforms.proofs.Normal.Membership.{mem-keep, keep-mem}
 use Rattle.automata_laws.specs.StateClass.{StateClass, sigma₁, pi₁, sigma₂, pi₂, classBit, every, isSmallest, smallestIn}
 use Rattle.automata_laws.specs.FormulaAutomaton.{isProper, State}
 use Rattle.automata_laws.proofs.Classes.{mem-every}

@@ -6,7 +6,7 @@ use mathlib.Core.Logic.{_↔_}
 use mathlib.Core.List.{List}
 use lib.ListN.{length, getD}
 use Rattle.logic.specs.Lasso.{Lasso, word}
-use Rattle.logic.specs.NormalForm.{keep}
+use Rattle.transforms.specs.NormalForm.{keep}
 use Rattle.logic.specs.Semantics.{Holds}
 use Rattle.table.specs.Node.{kind, left, right}
 use Rattle.table.specs.Table.{formulas, formulaOf, rule}

@@ -7,15 +7,15 @@ use mathlib.Core.List.{List, [], _∷_, _++_, map, map-append, foldl-append, app
 use lib.Count.{ones}
 use lib.Dec.{eqb}
 use Rattle.logic.specs.Formula.{Formula, const, disj}
-use Rattle.logic.specs.Folding.{foldBinary}
-use Rattle.logic.specs.NormalForm.{from, below, joinAll, chosenIn, choicesOf, choices}
+use Rattle.transforms.specs.Folding.{foldBinary}
+use Rattle.transforms.specs.NormalForm.{from, below, joinAll, chosenIn, choicesOf, choices}
 use Rattle.normal_laws.proofs.Chosen.{keep-append}
 use Rattle.placing.specs.State.{State}
 use Rattle.parts.specs.Parts.{foldedPart}
 use Rattle.sums.specs.declared.Sum.{Sum}
 use Rattle.sums.specs.declared.Sum.the-variants.{Nothing}
 use Rattle.sums.specs.Summed.{Summed, Grown}
-use Rattle.choices.specs.Joining.{joined}
+use Rattle.part_sums.specs.Joining.{joined}
 
 -- the parts of more choices are joined after those of the first
 pub grown-append : (t : List ℕ) (cs ds : List ℕ) {s m e : State} {a b r : Sum} → Grown (joined t cs) s m a b → Grown (joined t ds) m e b r → Grown (joined t (cs ++ ds)) s e a r

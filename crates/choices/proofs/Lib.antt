@@ -1,3 +1,2 @@
 -- The laws of the parts of all choices.
 pub mod ChoiceOrder
-pub mod Parts

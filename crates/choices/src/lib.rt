@@ -1,54 +1,15 @@
 // The folded parts of all choices, fewer chosen words first and equal counts by higher number, joined by or.
-use slots::slot;
+use part_sums::with_part;
 use sums::Sum;
-use table::kinds;
 ghost use Prim.Native.Nat.{ℕ, _^_, _<_};
 ghost use mathlib.Core.Bool.{false};
-ghost use mathlib.Core.List.{[], _∷_};
 ghost use lib.ListN.{length};
 ghost use Rattle.logic.specs.Formula.{const};
-ghost use Rattle.logic.specs.NormalForm.{below, chosenIn, choices};
+ghost use Rattle.transforms.specs.NormalForm.{below, chosenIn, choices};
 ghost use Rattle.placing.specs.State.{state};
 ghost use Rattle.filling.specs.Filled.{Laid};
+ghost use Rattle.part_sums.specs.Joining.{joined, Untrue, Joinable};
 ghost use Rattle.sums.specs.Summed.{Small, Summed, Grown};
-ghost use Rattle.choices.specs.Joining.{joined, Untrue, Joinable};
-
-// The sum with the part of the choice joined to it, if the choice has so many chosen words. A part that folds to false adds nothing.
-pub fn with_part(
-    table: &[u32],
-    positions: &[u8],
-    choice: u32,
-    ones: u32,
-    draft: &mut [u64],
-    folded: &mut [u64],
-    numbers: &mut [u16],
-    stack: &mut [u32],
-    out: &mut [u32],
-    index: &mut [u16],
-    sum: Sum,
-) -> Sum
-    requires { ⌜ Joinable (now table) (now positions) (now draft) (now folded) (now numbers) (now stack) (state (now out) (now index)) ⌝ }
-    requires { ⌜ Untrue (now table) choice × Small sum ⌝ }
-    ensures { λ r. ⌜ Grown
-        (joined (now (table .entry)) (chosenIn (choice ∷ []) ones))
-        (state (now (out .entry)) (now (index .entry)))
-        (state (now (out .exit)) (now (index .exit)))
-        sum
-        r ⌝ }
-    ensures { λ r. ⌜ Laid (now (table .entry)) (now (draft .exit)) (length (now (table .entry))) ⌝ }
-{
-    if u32::count_ones(choice) != ones {
-        return sum;
-    }
-    if let Sum::Full = sum {
-        return Sum::Full;
-    }
-    let root = parts::part(table, positions, choice, draft, folded);
-    if slot::kind(folded[root]) == kinds::FALSE {
-        return sum;
-    }
-    sums::join(sum, folded, root, numbers, stack, out, index)
-}
 
 // The choices below `limit` with so many chosen words, the highest first.
 pub fn with_ones(

@@ -10,8 +10,8 @@ use lib.Dec.{T}
 use Rattle.logic.specs.Formula.{Formula, Binary, conj, disj, until, weak, release, strong, implies}
 use Rattle.logic.specs.Hierarchy.{Closing, boolean, least, greatest, closes, Closure, base, step, join, Atomic, constant, literal, Δ₂}
 use Rattle.logic.specs.NegationNormalForm.{plainBinary, isPlain}
-use Rattle.logic.specs.NormalForm.{normalForm}
-use Rattle.logic.specs.Folding.{fold}
+use Rattle.transforms.specs.NormalForm.{normalForm}
+use Rattle.transforms.specs.Folding.{fold}
 use Rattle.logic.proofs.Tests.{T-and}
 use Rattle.refusals.specs.declared.Outcome.the-variants.{Accepted}
 use Rattle.table.specs.Table.{rule}

@@ -9,7 +9,7 @@ use lib.ListN.{length, getD, take, length-append}
 use lib.Seq.{take-length}
 use lib.Dec.{eqb}
 use Rattle.logic.specs.Formula.{Formula, const, bin, conj}
-use Rattle.logic.specs.NormalForm.{keep, chosen, leastOf, greatestOf}
+use Rattle.transforms.specs.NormalForm.{keep, chosen, leastOf, greatestOf}
 use Rattle.table.specs.Table.{formulas, formulasAfter, formulaOf}
 use Rattle.table.specs.Steps.{fixpoints}
 use Rattle.table.specs.StepChecks.{isFixpointWord}

@@ -5,7 +5,7 @@ use mathlib.Core.Bool.{Bool, true, false, _||_, true≢false}
 use mathlib.Core.List.{List}
 use lib.ListN.{length, getD}
 use Rattle.logic.specs.Formula.{Formula, const}
-use Rattle.logic.specs.NormalForm.{isLeast, isFixpoint, keep, chosen, leastOf, greatestOf}
+use Rattle.transforms.specs.NormalForm.{isLeast, isFixpoint, keep, chosen, leastOf, greatestOf}
 use Rattle.table.specs.Table.{formulas}
 use Rattle.table.specs.Steps.{fixpoints}
 use Rattle.table.specs.StepChecks.{isFixpointWord}

@@ -5,7 +5,7 @@ use mathlib.Core.Bool.{Bool, true}
 use mathlib.Core.List.{List, map, foldl}
 use lib.ListN.{length, getD}
 use Rattle.logic.specs.Formula.{Formula, bin, conj, F, G}
-use Rattle.logic.specs.NormalForm.{isLeast, isGreatest, leastOf, greatestOf}
+use Rattle.transforms.specs.NormalForm.{isLeast, isGreatest, leastOf, greatestOf}
 use Rattle.table.specs.Steps.{fixpoints}
 use Rattle.draft.specs.Drafted.{Drafted}
 use Rattle.form_places.specs.declared.Rewriting.the-variants.{Steady, Recurring, Opening}

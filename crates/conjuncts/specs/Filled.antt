@@ -2,7 +2,7 @@
 use Prim.Native.Nat.{ℕ, _<_, _≤_}
 use mathlib.Core.List.{List}
 use Rattle.logic.specs.Formula.{Formula}
-use Rattle.logic.specs.NormalForm.{member, leastOf, greatestOf}
+use Rattle.transforms.specs.NormalForm.{member, leastOf, greatestOf}
 use Rattle.table.specs.Table.{formulas, formulaOf}
 use Rattle.table.specs.Steps.{fixpoints}
 use Rattle.slots.specs.Slot.{pack}

@@ -16,8 +16,8 @@ use Rattle.table.specs.Steps.{dialectTable}
 use Rattle.table.proofs.Header.{accepted-headed}
 use Rattle.placing.specs.Written.{Ends}
 use Rattle.placing.proofs.Written as writing
-use Rattle.heading.specs.Finished.{Given}
-use Rattle.heading.proofs.Ends.{given-ends}
+use Rattle.headed_answers.specs.Finished.{Given}
+use Rattle.headed_answers.proofs.Ends.{given-ends}
 use Rattle.heading.proofs.Order.{whole-body}
 
 -- the part of an accepted table that stands after its header

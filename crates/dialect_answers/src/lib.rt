@@ -7,7 +7,7 @@ ghost use Rattle.refusals.specs.declared.Outcome.the-variants as outcome;
 ghost use Rattle.table.specs.Checks.{checked};
 ghost use Rattle.table.specs.Steps.{dialectTable};
 ghost use Rattle.table.specs.Header.{headed};
-ghost use Rattle.heading.specs.Finished.{Given};
+ghost use Rattle.headed_answers.specs.Finished.{Given};
 
 // The conversion of accepted words, under its header.
 pub fn answer(words: &[u32], result: &mut [u32]) -> Answer
@@ -15,8 +15,8 @@ pub fn answer(words: &[u32], result: &mut [u32]) -> Answer
     ensures { λ r. ⌜ Given (headed (dialectTable (now (words .entry)))) (now (result .entry)) (now (result .exit)) r ⌝ }
 {
     if result.len() == 0 {
-        return heading::finish(result, 0);
+        return headed_answers::finish(result, 0);
     }
     let n = write(words, &mut result[1..]);
-    heading::finish(result, n)
+    headed_answers::finish(result, n)
 }

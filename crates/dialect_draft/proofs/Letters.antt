@@ -2,7 +2,7 @@
 use Prim.Native.Nat.{ℕ}
 use Rattle.logic.specs.Formula.{Formula, Binary, const, lit, un, bin, conj, disj, until, weak, release, strong, implies}
 use Rattle.logic.specs.Letters.{Letters}
-use Rattle.logic.specs.Dialect.{dialect, dialectOp}
+use Rattle.transforms.specs.Dialect.{dialect, dialectOp}
 
 letters-op : (Q : ℕ → Type 0) (o : Binary) (a b : Formula) → Letters Q a → Letters Q b → Letters Q (dialectOp o a b)
 letters-op Q conj a b p q = (p, q)

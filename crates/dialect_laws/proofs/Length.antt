@@ -6,7 +6,7 @@ use mathlib.Core.Path.{_≡_, refl, _∙_, subst}
 use mathlib.Core.Bool.{true}
 use mathlib.Core.List.{List}
 use lib.ListN.{length, set, length-set, replicate, length-replicate}
-use Rattle.logic.specs.Dialect.{dialect}
+use Rattle.transforms.specs.Dialect.{dialect}
 use Rattle.refusals.specs.declared.Outcome.the-variants.{Accepted}
 use Rattle.table.specs.Table.{rule}
 use Rattle.table.specs.Checks.{checked}

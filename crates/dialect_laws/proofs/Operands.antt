@@ -8,8 +8,8 @@ use lib.ListN.{length, getD}
 use lib.Dec.{T, lit<}
 use Rattle.logic.specs.Formula.{Formula, Unary, Binary, const, lit, un, bin, next, neg, finally, globally, conj, disj, until, weak, release, strong, implies}
 use Rattle.logic.specs.Letters.{Letters}
-use Rattle.logic.specs.Subformula.{Sub, self, under, left, right}
-use Rattle.logic.specs.Dialect.{dialect, dialectOp, freeOp, isFree}
+use Rattle.transforms.specs.Subformula.{Sub, self, under, left, right}
+use Rattle.transforms.specs.Dialect.{dialect, dialectOp, freeOp, isFree}
 use Rattle.logic.proofs.Tests.{T-and}
 use Rattle.table.specs.Node.{kind, unaryKind, binaryKind}
 use Rattle.table.proofs.Fields.{kind-pack}

@@ -10,10 +10,10 @@ use borrow.Author.Tests.{le-leb, leb-true}
 use Rattle.logic.specs.Formula.{Formula, Binary, conj, disj, until, weak, release, strong, implies}
 use Rattle.logic.specs.ClassByte.{classByte}
 use Rattle.logic.specs.Letters.{Letters}
-use Rattle.logic.specs.Dialect.{dialect, freeOp, isFree}
+use Rattle.transforms.specs.Dialect.{dialect, freeOp, isFree}
 use Rattle.logic.proofs.Tests.{T-and}
-use Rattle.logic.proofs.Letters.{letters-sub}
-use Rattle.logic.proofs.Dialect as law
+use Rattle.transforms.proofs.Letters.{letters-sub}
+use Rattle.transforms.proofs.Dialect as law
 use Rattle.refusals.specs.declared.Outcome.the-variants.{Accepted}
 use Rattle.table.specs.declared.answer.Answer.the-variants.{Made}
 use Rattle.table.specs.Node.{Shape, none, constant, letter, unary, binary, kind, left, right, shape, kindOf, binaryKind, leftField, rightField}

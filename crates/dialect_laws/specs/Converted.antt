@@ -8,7 +8,7 @@ use lib.ListN.{length, getD}
 use Rattle.logic.specs.Lasso.{Lasso, word}
 use Rattle.logic.specs.Semantics.{Holds}
 use Rattle.logic.specs.ClassByte.{classByte}
-use Rattle.logic.specs.Dialect.{dialect}
+use Rattle.transforms.specs.Dialect.{dialect}
 use Rattle.refusals.specs.declared.Outcome.the-variants.{Accepted}
 use Rattle.table.specs.Node.{kind}
 use Rattle.table.specs.Table.{formulas, formulaOf, rule}

@@ -9,7 +9,7 @@ use mathlib.Core.List.{List}
 use lib.ListN.{length, set, length-set}
 use lib.Seq.{getD-set-other}
 use Rattle.logic.specs.Formula.{Formula, Binary, un, bin, next, conj, disj, until, weak, release, strong}
-use Rattle.logic.specs.Dialect.{dialect, dialectOp}
+use Rattle.transforms.specs.Dialect.{dialect, dialectOp}
 use Rattle.table.specs.Node.{shape, binary, binaryKind, rightField, kindOf}
 use Rattle.table.specs.Checks.{isOperand}
 use Rattle.table.proofs.Shapes.{shape-unary, shape-binary, kindOf-shape}

@@ -5,7 +5,7 @@ use mathlib.Core.Path.{_≡_, refl}
 use mathlib.Core.Bool.{true, false}
 use mathlib.Core.List.{List}
 use Rattle.logic.specs.Formula.{Formula, Binary, bin, next, neg, finally, globally, conj, disj, until, weak, release, strong, implies}
-use Rattle.logic.specs.Dialect.{dialect, dialectOp}
+use Rattle.transforms.specs.Dialect.{dialect, dialectOp}
 use Rattle.table.specs.Node.{Shape, none, constant, letter, unary, binary, rightField, kindOf}
 use Rattle.table.specs.Table.{formulaBy}
 use Rattle.table.specs.Checks.{isBlank}

@@ -5,7 +5,7 @@ use mathlib.Core.Bool.{true}
 use mathlib.Core.List.{List}
 use lib.ListN.{length}
 use Rattle.logic.specs.Formula.{Formula}
-use Rattle.logic.specs.Dialect.{dialect}
+use Rattle.transforms.specs.Dialect.{dialect}
 use Rattle.refusals.specs.declared.Outcome.the-variants.{Accepted}
 use Rattle.table.specs.Table.{formulas, formulaOf}
 use Rattle.table.specs.Checks.{checked}

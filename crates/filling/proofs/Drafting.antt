@@ -4,7 +4,7 @@ use mathlib.Core.Path.{_≡_, refl}
 use mathlib.Core.Bool.{Bool, true, false}
 use mathlib.Core.List.{List}
 use Rattle.logic.specs.Formula.{Formula, Binary, bin, conj, disj, until, weak, release, strong, implies, G}
-use Rattle.logic.specs.Rewriting.{steadyOp, steady, recurringOp, recurring, opening}
+use Rattle.transforms.specs.Rewriting.{steadyOp, steady, recurringOp, recurring, opening}
 use Rattle.table.specs.Node.{Shape, none, constant, letter, unary, binary, leftField, rightField, binaryKind}
 use Rattle.table.specs.Table.{formulaBy}
 use Rattle.table.specs.Checks.{isOperand, isProposition}

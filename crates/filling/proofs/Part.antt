@@ -6,8 +6,8 @@ use mathlib.Core.Bool.{true}
 use mathlib.Core.List.{List, map, foldl-append}
 use lib.ListN.{length}
 use Rattle.logic.specs.Formula.{bin, conj}
-use Rattle.logic.specs.Rewriting.{opening}
-use Rattle.logic.specs.NormalForm.{member, leastOf, part}
+use Rattle.transforms.specs.Rewriting.{opening}
+use Rattle.transforms.specs.NormalForm.{member, leastOf, part}
 use Rattle.table.specs.Table.{rule}
 use Rattle.table.specs.Steps.{fixpoints}
 use Rattle.table.proofs.Accepted.{accepted-well-formed}

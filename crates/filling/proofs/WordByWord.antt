@@ -11,8 +11,8 @@ use lib.Seq.{getD-set-same, getD-set-other}
 use lib.Dec.{eqb}
 use borrow.Author.Tests.{eqb-true, eqb-false}
 use Rattle.logic.specs.Formula.{Formula, bin, disj, G}
-use Rattle.logic.specs.Rewriting.{steady, opening}
-use Rattle.logic.specs.NormalForm.{isLeast, isGreatest, member, leastOf, greatestOf}
+use Rattle.transforms.specs.Rewriting.{steady, opening}
+use Rattle.transforms.specs.NormalForm.{isLeast, isGreatest, member, leastOf, greatestOf}
 use Rattle.table.specs.Node.{Shape, none, constant, letter, unary, binary, shape, kind, left, right, leftField, rightField, binaryKind}
 use Rattle.table.specs.Checks.{isBlank, isOperand, isProposition}
 use Rattle.slots.specs.Slot.{pack}

@@ -3,7 +3,7 @@ use conjuncts::Fixpoint;
 use slots::slot;
 use table::kinds;
 ghost use lib.ListN.{length};
-ghost use Rattle.logic.specs.NormalForm as normal;
+ghost use Rattle.transforms.specs.NormalForm as normal;
 ghost use Rattle.table.specs.Table.{rule};
 ghost use Rattle.table.specs.Steps as steps;
 ghost use Rattle.draft.specs.Drafted.{Drafted};

@@ -10,7 +10,7 @@ use mathlib.Core.List.{List, [], _∷_}
 use lib.ListN.{length, getD, set, length-set}
 use lib.Seq.{take-length, getD-set-same, getD-set-other}
 use Rattle.logic.specs.Formula.{const}
-use Rattle.logic.specs.NormalForm.{keep}
+use Rattle.transforms.specs.NormalForm.{keep}
 use Rattle.refusals.specs.declared.Refusal.the-variants.{TooManyFixpoints}
 use Rattle.refusals.specs.declared.Outcome.the-variants.{Accepted}
 use Rattle.refusals.specs.Refusals.{first, decideBy}

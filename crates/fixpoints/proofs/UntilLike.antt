@@ -10,14 +10,14 @@ use lib.ListN.{length, getD, take, drop, length-drop, length-append}
 use lib.Seq.{split-at, take-suc, take-length, getD-take, getD-drop, getD-append-seam, length-take-le}
 use lib.Dec.{T, eqb, leb}
 use Rattle.logic.specs.Formula.{Formula, const, same, next, neg, finally, globally, conj, disj, until, weak, release, strong, implies}
-use Rattle.logic.specs.NormalForm.{isFixpoint, keep, member, chosen}
+use Rattle.transforms.specs.NormalForm.{isFixpoint, keep, member, chosen}
 use Rattle.table.specs.Node.{Shape, none, constant, letter, unary, binary, kind, shape, kindOf}
 use Rattle.table.specs.Table.{formulaBy, formulas, formulasAfter}
 use Rattle.table.specs.Steps.{fixpoints}
 use Rattle.table.specs.StepChecks.{isFixpointWord}
 use Rattle.table.proofs.Accepted.{WellFormed, accepted-formula}
 use Rattle.table.proofs.Formulas.{take-formulas, length-formulas}
-use Rattle.logic.proofs.Normal.Membership.{mem-of-member, member-of-mem, mem-keep, mem-place}
+use Rattle.transforms.proofs.Normal.Membership.{mem-of-member, member-of-mem, mem-keep, mem-place}
 use Rattle.logic.specs.Bit.{bit}
 use Rattle.fixpoints.specs.Positions.{bitOf}
 use Rattle.table.proofs.Shapes.{kindOf-shape}

@@ -4,7 +4,7 @@ use mathlib.Core.Path.{_≡_}
 use mathlib.Core.Bool.{true}
 use mathlib.Core.List.{List}
 use lib.ListN.{length, getD, take}
-use Rattle.logic.specs.NormalForm.{keep}
+use Rattle.transforms.specs.NormalForm.{keep}
 use Rattle.refusals.specs.declared.Outcome.the-variants.{Accepted}
 use Rattle.table.specs.Checks.{checked}
 use Rattle.table.specs.Steps.{fixpoints}

@@ -4,8 +4,8 @@ use native.Mathlib.Omega.{arith}
 use mathlib.Core.Path.{_≡_, refl, sym, ap, ap₂, _∙_, subst}
 use mathlib.Core.Bool.{Bool, true, false}
 use Rattle.logic.specs.Formula.{Binary, next, neg, finally, globally, conj, disj, until, weak, release, strong, implies}
-use Rattle.logic.specs.Folding as folding
-use Rattle.logic.specs.Folding.{onLeft, onRight, orElse}
+use Rattle.transforms.specs.Folding as folding
+use Rattle.transforms.specs.Folding.{onLeft, onRight, orElse}
 use Rattle.table.specs.Node.{Shape, none, constant, letter, unary, binary, shape, binaryKind, kindOf}
 use Rattle.table.proofs.Shapes.{shape-unary, shape-binary, kindOf-shape}
 use Rattle.slots.proofs.Arity.{Known, known-kind}

@@ -1,7 +1,7 @@
 -- The rules of folding by the shapes of a word and of its operands.
 use mathlib.Core.Bool.{Bool}
-use Rattle.logic.specs.Folding as folding
-use Rattle.logic.specs.Folding.{onLeft, onRight, onOperand, orElse}
+use Rattle.transforms.specs.Folding as folding
+use Rattle.transforms.specs.Folding.{onLeft, onRight, onOperand, orElse}
 use Rattle.table.specs.Node.{Shape, none, constant, letter, unary, binary}
 use Rattle.fold_rules.specs.declared.Fold.{Fold}
 use Rattle.fold_rules.specs.declared.Fold.the-variants.{Left, Right, Stands}

@@ -8,7 +8,7 @@ use mathlib.Core.Logic.{_⊎_, inl, inr}
 use mathlib.Core.List.{List}
 use lib.ListN.{length, getD, set, length-set}
 use Rattle.logic.specs.Formula.{Formula, Unary, Binary, const, lit, un, bin, next, neg, finally, globally}
-use Rattle.logic.specs.Folding.{Fold, left, right, stands, onLeft, onRight, onOperand, byConstant, orElse, pick, foldUnary, foldBinary, fold}
+use Rattle.transforms.specs.Folding.{Fold, left, right, stands, onLeft, onRight, onOperand, byConstant, orElse, pick, foldUnary, foldBinary, fold}
 use Rattle.table.specs.Node.{Shape, none, constant, letter, unary, binary, shape, unaryKind, binaryKind}
 use Rattle.table.proofs.Shapes.{shape-unary, shape-binary, shape-constant, shape-letter}
 use Rattle.slots.specs.Slot as slot

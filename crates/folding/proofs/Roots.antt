@@ -6,7 +6,7 @@ use mathlib.Core.Bool.{Bool, cond}
 use mathlib.Core.List.{List}
 use lib.ListN.{getD}
 use Rattle.logic.specs.Formula.{Formula, const, lit, un, bin}
-use Rattle.logic.specs.Folding.{Fold, byConstant}
+use Rattle.transforms.specs.Folding.{Fold, byConstant}
 use Rattle.table.specs.Node.{Shape, constant, letter, unary, binary, shape, unaryKind, binaryKind}
 use Rattle.table.proofs.Shapes.{shape-unary, shape-binary, shape-constant, shape-letter}
 use Rattle.slots.specs.Slot.{kind}

@@ -3,8 +3,8 @@ use Prim.Native.Nat.{ℕ}
 use mathlib.Core.Path.{_≡_, refl}
 use mathlib.Core.List.{List}
 use lib.ListN.{getD}
-use Rattle.logic.specs.Folding as folding
-use Rattle.logic.specs.Folding.{pick}
+use Rattle.transforms.specs.Folding as folding
+use Rattle.transforms.specs.Folding.{pick}
 use Rattle.table.specs.Node.{shape}
 use Rattle.slots.specs.Slot.{kind, left, right}
 use Rattle.fold_rules.specs.declared.Fold.{Fold}

@@ -3,7 +3,7 @@ use Prim.Native.Nat.{ℕ, _^_, _≤_, _<_}
 use mathlib.Core.List.{List}
 use lib.ListN.{length, getD}
 use Rattle.logic.specs.Formula.{Formula}
-use Rattle.logic.specs.Folding.{pick, fold}
+use Rattle.transforms.specs.Folding.{pick, fold}
 use Rattle.table.specs.Node.{shape}
 use Rattle.slots.specs.Slot.{kind, left, right}
 use Rattle.draft.specs.Drafted.{Drafted}

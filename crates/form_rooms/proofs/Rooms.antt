@@ -6,8 +6,8 @@ use mathlib.Core.Bool.{true}
 use mathlib.Core.List.{List}
 use lib.ListN.{replicate, length-replicate}
 use Rattle.logic.proofs.Numbers.{getD-zeros}
-use Rattle.logic.specs.NormalForm.{normalForm}
-use Rattle.logic.specs.Folding.{fold}
+use Rattle.transforms.specs.NormalForm.{normalForm}
+use Rattle.transforms.specs.Folding.{fold}
 use Rattle.table.specs.Table.{rule}
 use Rattle.table.specs.Numbering.{build}
 use Rattle.table.specs.Steps.{fixpoints, normalTable}

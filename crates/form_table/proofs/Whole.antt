@@ -7,9 +7,9 @@ use mathlib.Core.List.{List, [], _∷_, map, foldl, List·Memᴰ, List·Memᴰ·
 use mathlib.Core.Logic.{_⊎_, inl, inr}
 use lib.ListN.{length}
 use Rattle.logic.specs.Formula.{Formula, const, lit, un, bin, disj}
-use Rattle.logic.specs.NormalForm.{part, choices, disjoin, normalForm}
-use Rattle.logic.specs.Folding.{foldBinary, fold}
-use Rattle.logic.proofs.Normal.Choices.{mem-choices}
+use Rattle.transforms.specs.NormalForm.{part, choices, disjoin, normalForm}
+use Rattle.transforms.specs.Folding.{foldBinary, fold}
+use Rattle.transforms.proofs.Normal.Choices.{mem-choices}
 use Rattle.table.specs.Table.{rule}
 use Rattle.table.specs.Steps.{fixpoints}
 use Rattle.table.specs.Numbering.{put, constantWord, build}
@@ -21,7 +21,7 @@ use Rattle.true_parts.proofs.Looks.{ready-again}
 use Rattle.sums.specs.declared.Sum.{Sum}
 use Rattle.sums.specs.declared.Sum.the-variants.{Nothing, Full, At}
 use Rattle.sums.specs.Summed.{Summed}
-use Rattle.choices.specs.Joining.{joined, Joinable}
+use Rattle.part_sums.specs.Joining.{joined, Joinable}
 use Rattle.form_table.specs.Formable.{Formable}
 
 module _ (t : List ℕ) where

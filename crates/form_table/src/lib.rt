@@ -1,8 +1,8 @@
 // The words of a form: true alone where some part folds to it, and else the sum of the parts.
 use placing::put;
 use table::kinds;
-ghost use Rattle.logic.specs.NormalForm.{normalForm};
-ghost use Rattle.logic.specs.Folding.{fold};
+ghost use Rattle.transforms.specs.NormalForm.{normalForm};
+ghost use Rattle.transforms.specs.Folding.{fold};
 ghost use Rattle.table.specs.Numbering.{build};
 ghost use Rattle.table.specs.Table.{rule};
 ghost use Rattle.table.specs.Steps as steps;

@@ -12,8 +12,8 @@ use Rattle.placing.specs.Written.{Written}
 use Rattle.placing.proofs.Putting.{fits-true}
 use Rattle.headers.specs.Headable.{Headable}
 use Rattle.headers.proofs.Headable.{some, few}
-use Rattle.heading.specs.Finished.{Finishable, Finished, Given}
-use Rattle.heading.proofs.Lent.{lent-finishable, lent-given}
+use Rattle.headed_answers.specs.Finished.{Finishable, Finished, Given}
+use Rattle.headed_answers.proofs.Lent.{lent-finishable, lent-given}
 
 module _ {words : List ℕ} (q : Headable words) (result : List ℕ) {part : List ℕ} (long : length words < length result)
     (same : length part ≡ length (take (length result - 1) (body result)))

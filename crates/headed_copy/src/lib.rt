@@ -6,7 +6,7 @@ ghost use Prim.Native.Nat.{_≤_};
 ghost use lib.ListN.{length, take, drop};
 ghost use Rattle.table.specs.Header.{headed};
 ghost use Rattle.headers.specs.Headable.{Headable};
-ghost use Rattle.heading.specs.Finished.{Given};
+ghost use Rattle.headed_answers.specs.Finished.{Given};
 
 // The first n words of a slice at the front of another.
 fn copy(from: &[u32], to: &mut [u32], n: usize)
@@ -27,8 +27,8 @@ pub fn write(words: &[u32], result: &mut [u32]) -> Answer
 {
     let n = words.len();
     if result.len() <= n {
-        return heading::finish(result, 0);
+        return headed_answers::finish(result, 0);
     }
     copy(words, &mut result[1..], n);
-    heading::finish(result, n)
+    headed_answers::finish(result, n)
 }

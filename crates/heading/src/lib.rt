@@ -1,10 +1,8 @@
-// Tables with their header: the checks of one that is handed over, and the end of a step that made one.
+// The checks of a table that is handed over with its header.
 use refusals::Outcome;
 use refusals::Refusal;
-use table::answer::Answer;
 ghost use mathlib.Core.Path.{_≡_};
 ghost use Rattle.table.specs.Header.{headedChecked};
-ghost use Rattle.heading.specs.Finished.{Finishable, Finished};
 
 // 1, 2 and 23 by the header, then the words and their uses, then 24.
 pub fn check(table: &[u32], plain: bool, limit: usize) -> Outcome
@@ -33,18 +31,4 @@ pub fn check(table: &[u32], plain: bool, limit: usize) -> Outcome
             Outcome::Accepted
         }
     }
-}
-
-// The header before the n words that stand after its place, or 12 where there are none.
-pub fn finish(result: &mut [u32], n: usize) -> Answer
-    requires { ⌜ Finishable (now result) n ⌝ }
-    ensures { λ r. ⌜ Finished (now (result .entry)) n (now (result .exit)) r ⌝ }
-{
-    if n == 0 {
-        clearing::words(result);
-        return Answer::Refused(Refusal::ResultTooShort);
-    }
-    let end = n + 1;
-    result[0] = headers::of(&result[1..end]);
-    Answer::Made(end)
 }

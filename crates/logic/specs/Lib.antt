@@ -8,15 +8,6 @@ pub mod Semantics
 pub mod Hierarchy
 pub mod ClassByte
 pub mod NegationNormalForm
-pub mod Rewriting
-pub mod NormalForm
-pub mod Dialect
-pub mod Folding
-pub mod After
 -- What is computed and proved equal: truth as a Bool, and the class byte from the operands' bytes.
 pub mod Truth
 pub mod ClassStep
--- What the theorem on the normal form speaks of.
-pub mod Subformula
-pub mod Recurrence
-pub mod Choice

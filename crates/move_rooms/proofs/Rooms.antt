@@ -1,18 +1,29 @@
--- Nothing is drafted, numbered or written yet, and there is room.
-use Prim.Native.Nat.{ℕ, _+_, _*_, _/_, _≤_, _<_}
+-- What drafting a move is asked with, in a room of a size, and what numbering it writes.
+use Prim.Native.Nat.{ℕ, _+_, _*_, _≤_, _<_}
 use native.Mathlib.Omega.{arith}
+use mathlib.Core.Path.{_≡_, refl, sym}
 use mathlib.Core.List.{List}
-use lib.ListN.{length, replicate, length-replicate}
-use Rattle.table.specs.Numbering.{room}
-use Rattle.placing.specs.State.{state}
-use Rattle.draft.specs.Numberable.{Fresh}
-use Rattle.draft.proofs.Fresh.{fresh}
-use Rattle.move_rooms.specs.Rooms.{Asked}
+use lib.ListN.{length}
+use Rattle.logic.specs.Formula.{Formula}
+use Rattle.draft.specs.Drafted.{Drafted}
+use Rattle.automata_tables.specs.Moves.{asFormula, writtenAt, moveTable}
+use Rattle.move_roots.specs.Roots.{Drawn}
+use Rattle.move_roots.proofs.Roots.{written-small, drafted-short}
+use Rattle.number_rooms.specs.Rooms as numbers
+use Rattle.move_rooms.specs.Rooms.{Asked, Moved}
 
--- a room of n slots for the words of a table, and an index of m numbers
-module _ (most n m : ℕ) {t out : List ℕ} (q : Asked most t out) (slots : 7 * most + 7 ≤ n) where
-  pub room-for : n ≤ 1048576 → (7 * length t + 7 ≤ length (replicate {A = ℕ} n 0)) × (length (replicate {A = ℕ} n 0) ≤ 1048576)
-  room-for h = (omega (arith, length-replicate {A = ℕ} n 0, q .few), omega (arith, length-replicate {A = ℕ} n 0))
+-- a draft of n slots for the words of a table
+module _ (most n : ℕ) {t out : List ℕ} (q : Asked most t out) where
+  pub room-for : {k : ℕ} → n ≡ k → 7 * most + 7 ≤ n → n ≤ 1048576 → (7 * length t + 7 ≤ k) × (k ≤ 1048576)
+  room-for long slots h = (omega (arith, q .few), omega arith)
 
-  pub nothing-numbered : room (7 * most + 7) < m / 2 → m ≤ 32768 → Fresh (replicate n 0) (replicate n 0) (replicate n 0) (state out (replicate m 0))
-  nothing-numbered h k = fresh n m out (omega (arith, q .few, q .lent)) k
+  pub to-number : {d : List ℕ} {root : ℕ} (φ : Formula) → Drafted d φ root → n ≡ length d → 7 * most + 7 ≤ n → numbers.Asked n d root out
+  to-number φ f long slots = record { formula = φ; drafted = f; long = sym long; lent = omega (arith, q .few, q .lent) }
+
+  pub moved : {bytes starts d made : List ℕ} {s w bit v root r : ℕ} → Drawn t bytes starts s w bit → Drafted d (asFormula (writtenAt t s v)) root × (root < 7 * length t + 7) → n ≡ length d → n ≤ 1048576
+      → numbers.Made d root out made r → Moved t s v out made r
+  unfolding moveTable
+  moved {d = d} {s = s} {v = v} drawn f long few m = record {
+    written = m .written (asFormula (writtenAt t s v)) (f .0) (written-small (drawn .kept) s v);
+    short = drafted-short d d (asFormula (writtenAt t s v)) (omega arith) refl (f .0) (f .1);
+  }

@@ -18,8 +18,8 @@ use Rattle.table.proofs.Header.{accepted-headed}
 use Rattle.table.specs.Steps.{plainTable}
 use Rattle.placing.specs.Written.{Ends}
 use Rattle.placing.proofs.Written.{ends-refused}
-use Rattle.heading.specs.Finished.{Given}
-use Rattle.heading.proofs.Ends.{given-ends}
+use Rattle.headed_answers.specs.Finished.{Given}
+use Rattle.headed_answers.proofs.Ends.{given-ends}
 use Rattle.plain_answers.specs.Formable.{Formable}
 
 module _ (l : Limits) (t result : List ℕ) where

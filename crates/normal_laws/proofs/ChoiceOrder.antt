@@ -9,7 +9,7 @@ use lib.Count.{ones, ones-step}
 use lib.Pow.{pow-pos}
 use borrow.Author.Tests.{ne-eqb}
 use Rattle.logic.specs.Formula.{Formula, bin, disj}
-use Rattle.logic.specs.NormalForm.{chosenIn, from, below, joinAll, choicesOf, choices, disjoin, part, normalForm}
+use Rattle.transforms.specs.NormalForm.{chosenIn, from, below, joinAll, choicesOf, choices, disjoin, part, normalForm}
 use Rattle.table.specs.Table.{rule}
 use Rattle.table.specs.Steps.{fixpoints}
 

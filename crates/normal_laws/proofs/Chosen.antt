@@ -8,7 +8,7 @@ use mathlib.Core.List.{List, [], _∷_, _++_, List·Memᴰ, List·Memᴰ·head, 
 use lib.ListN.{length}
 use lib.Dec.{eqb}
 use Rattle.logic.specs.Formula.{Formula, Binary, const, lit, un, bin, conj, disj, until, weak, release, strong, implies, isLeastOp, isGreatestOp}
-use Rattle.logic.specs.NormalForm.{isLeast, isGreatest, keep, chosen, leastOf, greatestOf}
+use Rattle.transforms.specs.NormalForm.{isLeast, isGreatest, keep, chosen, leastOf, greatestOf}
 
 pub keep-append {ℓ} : {A : Type ℓ} (p : A → Bool) (xs ys : List A) → keep p (xs ++ ys) ≡ keep p xs ++ keep p ys
 keep-append p [] ys = refl

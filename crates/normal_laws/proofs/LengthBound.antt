@@ -8,14 +8,14 @@ use mathlib.Core.Bool.{Bool, true, false, cond}
 use mathlib.Core.List.{List, [], _∷_, _++_, map, foldl, List·Memᴰ, List·Memᴰ·head, List·Memᴰ·tail, List·Memᴰ·not-nil, List·Memᴰ·cases-cons, List·Memᴰ·append-cases, List·Memᴰ·eq-of-singleton, Memᴰ·append-left, Memᴰ·append-right, Memᴰ·map}
 use lib.ListN.{length, length-append, length-map}
 use Rattle.logic.specs.Formula.{Formula, Binary, const, lit, un, bin, conj, disj, until, weak, release, strong, implies, F, G}
-use Rattle.logic.specs.Folding.{fold}
-use Rattle.logic.specs.Rewriting.{steadyOp, steady, recurringOp, recurring, opening}
+use Rattle.transforms.specs.Folding.{fold}
+use Rattle.transforms.specs.Rewriting.{steadyOp, steady, recurringOp, recurring, opening}
 use lib.Dec.{eqb}
 use lib.Count.{ones}
 use native.Mathlib.Decide.{ℕ-discrete}
 use borrow.Author.Tests.{ne-eqb, eq-eqb}
 use Rattle.normal_laws.proofs.ChoiceOrder.{choicesBelow, upTo, choices-first, normalForm-disjoined}
-use Rattle.logic.specs.NormalForm.{isLeast, isGreatest, isFixpoint, chosen, leastOf, greatestOf, member, part, from, joinAll, choicesOf, choices, normalForm}
+use Rattle.transforms.specs.NormalForm.{isLeast, isGreatest, isFixpoint, chosen, leastOf, greatestOf, member, part, from, joinAll, choicesOf, choices, normalForm}
 use Rattle.table.specs.Table.{formulas, rule}
 use Rattle.table.specs.Numbering.{tableOf}
 use Rattle.table.specs.Steps.{fixpoints, normalTable}
@@ -23,10 +23,10 @@ use Rattle.table.proofs.Accepted.{WellFormed}
 use Rattle.table.proofs.Formulas.{length-formulas}
 use Rattle.numbering.proofs.Built.{Hereditary}
 use Rattle.numbering.proofs.Lengths.{hereditary-sub, folded-length}
-use Rattle.logic.specs.Subformula as subformula
-use Rattle.logic.proofs.Normal.PlainFormula.{sub-trans}
+use Rattle.transforms.specs.Subformula as subformula
+use Rattle.transforms.proofs.Normal.PlainFormula.{sub-trans}
 use Rattle.normal_laws.proofs.Subformulas.{complete, inside}
-use Rattle.logic.proofs.Normal.Membership.{mem-joinAll, mem-keep}
+use Rattle.transforms.proofs.Normal.Membership.{mem-joinAll, mem-keep}
 use Rattle.normal_laws.proofs.Chosen.{mem-chosen, members-few}
 
 -- what holds of the operands of a formula

@@ -6,10 +6,10 @@ use mathlib.Core.Bool.{Bool, true, false}
 use mathlib.Core.List.{List, [], _∷_, map, foldl, List·Memᴰ, List·Memᴰ·head, List·Memᴰ·tail, List·Memᴰ·not-nil, List·Memᴰ·cases-cons, List·Memᴰ·append-cases}
 use lib.ListN.{length}
 use Rattle.logic.specs.Formula.{Formula, Binary, const, lit, un, bin, conj, disj, until, weak, release, strong, implies, F, G}
-use Rattle.logic.specs.Rewriting.{steadyOp, steady, recurringOp, recurring, openingOp, opening}
-use Rattle.logic.specs.NormalForm.{isLeast, isGreatest, member, chosen, leastOf, greatestOf, part, choices, disjoin, normalForm}
+use Rattle.transforms.specs.Rewriting.{steadyOp, steady, recurringOp, recurring, openingOp, opening}
+use Rattle.transforms.specs.NormalForm.{isLeast, isGreatest, member, chosen, leastOf, greatestOf, part, choices, disjoin, normalForm}
 use Rattle.logic.specs.Letters.{Letters}
-use Rattle.logic.proofs.Normal.Membership.{mem-keep}
+use Rattle.transforms.proofs.Normal.Membership.{mem-keep}
 use Rattle.normal_laws.proofs.Chosen.{mem-chosen}
 
 module _ (Q : ℕ → Type 0) where

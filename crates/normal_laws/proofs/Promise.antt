@@ -11,19 +11,19 @@ use Rattle.logic.specs.Formula.{Formula}
 use Rattle.logic.specs.Lasso.{Lasso, word}
 use Rattle.logic.specs.Semantics.{Holds}
 use Rattle.logic.specs.Hierarchy.{Δ₂}
-use Rattle.logic.specs.NormalForm.{normalForm}
-use Rattle.logic.specs.Folding.{fold}
+use Rattle.transforms.specs.NormalForm.{normalForm}
+use Rattle.transforms.specs.Folding.{fold}
 use Rattle.refusals.specs.declared.Outcome.the-variants.{Accepted}
 use Rattle.table.specs.Table.{rule}
 use Rattle.table.specs.Checks.{checked}
 use Rattle.table.specs.Steps.{fixpoints, normalTable}
 use Rattle.table.proofs.Accepted.{WellFormed, accepted-well-formed}
 use Rattle.logic.specs.Letters.{Letters}
-use Rattle.logic.proofs.Letters.{letters-sub}
+use Rattle.transforms.proofs.Letters.{letters-sub}
 use Rattle.numbering.proofs.Accepted.{plain-small, accepted-written}
 use Rattle.numbering.proofs.Used.{rule-tableOf}
-use Rattle.logic.proofs.Normal.Lasso.{normalForm-holds, normalForm-Δ₂}
-use Rattle.logic.proofs.Folding.{fold-holds, fold-Δ₂, fold-letters}
+use Rattle.transforms.proofs.Normal.Lasso.{normalForm-holds, normalForm-Δ₂}
+use Rattle.transforms.proofs.Folding.{fold-holds, fold-Δ₂, fold-letters}
 use Rattle.normal_laws.proofs.LettersKept.{normalForm-letters}
 use Rattle.normal_laws.proofs.Subformulas.{rule-plain, fixpoints-number}
 use Rattle.normal_laws.proofs.LengthBound.{normalTable-length}

@@ -19,8 +19,8 @@ use Rattle.numbering.proofs.Accepted.{Plain, plain-small}
 use Rattle.numbering.proofs.Formulas.{Ordered}
 use Rattle.numbering.proofs.Lengths.{held-formulas}
 use Rattle.numbering.proofs.Subformulas.{word-sub}
-use Rattle.logic.specs.Subformula.{Sub, Numbers}
-use Rattle.logic.proofs.Normal.Membership.{numbers-keep, mem-place}
+use Rattle.transforms.specs.Subformula.{Sub, Numbers}
+use Rattle.transforms.proofs.Normal.Membership.{numbers-keep, mem-place}
 use Rattle.normal_laws.proofs.Distinct.{formula-held}
 
 both : (a b : Bool) → T a → T b → T (a && b)

@@ -8,7 +8,7 @@ use mathlib.Core.List.{List}
 use lib.ListN.{length, getD}
 use Rattle.logic.specs.Letters.{Letters}
 use Rattle.logic.specs.Driven.{Driven}
-use Rattle.logic.proofs.Letters.{letters-sub}
+use Rattle.transforms.proofs.Letters.{letters-sub}
 use Rattle.refusals.specs.declared.Outcome.the-variants.{Accepted}
 use Rattle.refusals.specs.Refusals.{first}
 use Rattle.table.specs.Node.{kind, right, shape}

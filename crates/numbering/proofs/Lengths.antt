@@ -7,14 +7,14 @@ use mathlib.Core.List.{List, map, List·Memᴰ, Memᴰ·map}
 use lib.ListN.{length, getD, length-map}
 use Rattle.logic.specs.Formula.{Formula, const}
 use Rattle.logic.specs.Letters.{Letters}
-use Rattle.logic.specs.Subformula as subformula
-use Rattle.logic.specs.Subformula.{Sub}
-use Rattle.logic.specs.Folding.{fold}
+use Rattle.transforms.specs.Subformula as subformula
+use Rattle.transforms.specs.Subformula.{Sub}
+use Rattle.transforms.specs.Folding.{fold}
 use Rattle.logic.proofs.Pigeonhole.{pigeonhole}
-use Rattle.logic.proofs.Letters.{letters-sub}
-use Rattle.logic.proofs.Folding.{fold-sub}
-use Rattle.logic.proofs.Normal.Membership.{mem-place, mem-at}
-use Rattle.logic.proofs.Normal.PlainFormula.{sub-trans}
+use Rattle.transforms.proofs.Letters.{letters-sub}
+use Rattle.transforms.proofs.Folding.{fold-sub}
+use Rattle.transforms.proofs.Normal.Membership.{mem-place, mem-at}
+use Rattle.transforms.proofs.Normal.PlainFormula.{sub-trans}
 use Rattle.table.specs.Table.{formulas, formulaOf}
 use Rattle.table.specs.Numbering.{tableOf}
 use Rattle.table.proofs.Formulas.{length-formulas}

@@ -10,9 +10,9 @@ use lib.ListN.{length, getD}
 use lib.Dec.{eqb}
 use borrow.Author.Tests.{eqb-true}
 use Rattle.logic.specs.Formula.{Formula, const}
-use Rattle.logic.specs.Subformula as subformula
-use Rattle.logic.specs.Subformula.{Sub}
-use Rattle.logic.proofs.Normal.PlainFormula.{sub-trans}
+use Rattle.transforms.specs.Subformula as subformula
+use Rattle.transforms.specs.Subformula.{Sub}
+use Rattle.transforms.proofs.Normal.PlainFormula.{sub-trans}
 use Rattle.table.specs.Node.{Shape, none, constant, letter, unary, binary, kind, left, right, shape, leftField, rightField}
 use Rattle.table.specs.Table.{formulas, formulaOf, formulaBy, rule}
 use Rattle.table.specs.Checks.{isOperand, holdsLeft, holdsRight, uses}

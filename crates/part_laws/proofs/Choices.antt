@@ -12,12 +12,12 @@ use lib.Count.{ones}
 use lib.Dec.{eqb}
 use Rattle.logic.specs.Bit.{bit}
 use Rattle.logic.specs.Formula.{Formula, bin, disj}
-use Rattle.logic.specs.NormalForm.{below, choicesOf, choices, disjoin, from}
-use Rattle.logic.specs.Subformula as subformula
-use Rattle.logic.specs.Subformula.{Sub}
-use Rattle.logic.proofs.Normal.Membership.{mem-keep}
-use Rattle.logic.proofs.Normal.Choices.{mem-choices}
-use Rattle.logic.proofs.Normal.PlainFormula.{sub-trans}
+use Rattle.transforms.specs.NormalForm.{below, choicesOf, choices, disjoin, from}
+use Rattle.transforms.specs.Subformula as subformula
+use Rattle.transforms.specs.Subformula.{Sub}
+use Rattle.transforms.proofs.Normal.Membership.{mem-keep}
+use Rattle.transforms.proofs.Normal.Choices.{mem-choices}
+use Rattle.transforms.proofs.Normal.PlainFormula.{sub-trans}
 use Rattle.row_words.proofs.Bits.{packed}
 use Rattle.normal_laws.proofs.LengthBound.{mem-flat}
 use Rattle.table.specs.StepChecks.{isFixpointWord}

@@ -12,15 +12,15 @@ use Rattle.logic.specs.Formula.{Formula}
 use Rattle.logic.specs.Lasso.{Lasso, word}
 use Rattle.logic.specs.Letters.{Letters}
 use Rattle.logic.specs.Semantics.{Holds}
-use Rattle.logic.specs.Choice.{Exact}
-use Rattle.logic.specs.Recurrence.{InfinitelyOften, AlmostAlways}
-use Rattle.logic.specs.NormalForm.{isLeast, isGreatest, leastOf, greatestOf, choices, normalForm}
-use Rattle.logic.specs.Subformula.{Sub, Numbers}
+use Rattle.transforms.specs.Choice.{Exact}
+use Rattle.transforms.specs.Recurrence.{InfinitelyOften, AlmostAlways}
+use Rattle.transforms.specs.NormalForm.{isLeast, isGreatest, leastOf, greatestOf, choices, normalForm}
+use Rattle.transforms.specs.Subformula.{Sub, Numbers}
 use Rattle.logic.proofs.Tests.{T-same}
-use Rattle.logic.proofs.Letters.{letters-sub}
-use Rattle.logic.proofs.Normal.Lasso as normal
-use Rattle.logic.proofs.Normal.Parts.{mem-leastOf, mem-greatestOf}
-use Rattle.logic.proofs.Normal.PlainFormula.{exclusive}
+use Rattle.transforms.proofs.Letters.{letters-sub}
+use Rattle.transforms.proofs.Normal.Lasso as normal
+use Rattle.transforms.proofs.Normal.Parts.{mem-leastOf, mem-greatestOf}
+use Rattle.transforms.proofs.Normal.PlainFormula.{exclusive}
 use Rattle.refusals.specs.declared.Outcome.the-variants.{Accepted}
 use Rattle.table.specs.Table.{formulas, formulaOf, rule}
 use Rattle.table.specs.Checks.{checked}

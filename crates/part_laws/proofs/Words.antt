@@ -9,9 +9,9 @@ use lib.ListN.{length, getD}
 use lib.Dec.{T, eqb, eqb→eq, eqb-refl}
 use Rattle.logic.specs.Bit.{bit}
 use Rattle.logic.specs.Formula.{Formula, const, next, neg, finally, globally, conj, disj, until, weak, release, strong, implies}
-use Rattle.logic.specs.NormalForm.{isLeast, isGreatest, isFixpoint, keep, chosen}
+use Rattle.transforms.specs.NormalForm.{isLeast, isGreatest, isFixpoint, keep, chosen}
 use Rattle.logic.proofs.Tests.{T-or, ⊎-iff}
-use Rattle.logic.proofs.Normal.Membership.{mem-keep, keep-mem, mem-place, mem-at, mem-of-member, member-of-mem}
+use Rattle.transforms.proofs.Normal.Membership.{mem-keep, keep-mem, mem-place, mem-at, mem-of-member, member-of-mem}
 use Rattle.table.specs.Node.{Shape, none, constant, letter, unary, binary, kind, shape, kindOf}
 use Rattle.table.specs.Table.{formulas, formulaOf, formulaBy}
 use Rattle.table.specs.Steps.{fixpoints}

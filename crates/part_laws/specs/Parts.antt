@@ -9,8 +9,8 @@ use Rattle.logic.specs.Bit.{bit}
 use Rattle.logic.specs.Formula.{Formula}
 use Rattle.logic.specs.Lasso.{Lasso, word}
 use Rattle.logic.specs.Semantics.{Predicate, Holds}
-use Rattle.logic.specs.NormalForm.{part, normalForm}
-use Rattle.logic.specs.Recurrence.{InfinitelyOften, AlmostAlways}
+use Rattle.transforms.specs.NormalForm.{part, normalForm}
+use Rattle.transforms.specs.Recurrence.{InfinitelyOften, AlmostAlways}
 use Rattle.table.specs.Node.{kind}
 use Rattle.table.specs.Table.{formulas, formulaOf, rule}
 use Rattle.table.specs.Numbering.{tableOf}

@@ -7,7 +7,7 @@ use mathlib.Core.List.{List, map, List·Memᴰ}
 use lib.ListN.{length}
 use Rattle.logic.specs.Lasso.{Lasso, word}
 use Rattle.logic.specs.Semantics.{Holds}
-use Rattle.logic.specs.NormalForm.{choices, disjoin}
+use Rattle.transforms.specs.NormalForm.{choices, disjoin}
 use Rattle.refusals.specs.declared.Outcome.the-variants.{Accepted}
 use Rattle.table.specs.Table.{formulas, formulaOf, rule}
 use Rattle.table.specs.Header.{headed, headedChecked}

@@ -4,8 +4,8 @@ use mathlib.Core.Path.{_≡_}
 use mathlib.Core.List.{List}
 use lib.ListN.{length}
 use Rattle.logic.specs.Formula.{Formula}
-use Rattle.logic.specs.NormalForm.{part}
-use Rattle.logic.specs.Folding.{fold}
+use Rattle.transforms.specs.NormalForm.{part}
+use Rattle.transforms.specs.Folding.{fold}
 use Rattle.table.specs.Table.{rule}
 use Rattle.table.specs.Steps.{fixpoints}
 use Rattle.placing.specs.State.{State, Numbered}

@@ -10,8 +10,8 @@ use Rattle.table.specs.declared.answer.Answer.{Answer}
 use Rattle.table.specs.Header.{headed, body}
 use Rattle.table.specs.Steps.{plainTable}
 use Rattle.placing.specs.Written.{Written}
-use Rattle.heading.specs.Finished.{Finishable, Finished, Given}
-use Rattle.heading.proofs.Lent.{lent-finishable, lent-given}
+use Rattle.headed_answers.specs.Finished.{Finishable, Finished, Given}
+use Rattle.headed_answers.proofs.Lent.{lent-finishable, lent-given}
 use Rattle.plain_laws.proofs.Promise.{plain-length, plain-accepted}
 use Rattle.plain_answers.specs.Formable.{Formable}
 

@@ -4,7 +4,7 @@ ghost use mathlib.Core.Path.{_≡_};
 ghost use Prim.Native.Nat.{min};
 ghost use Rattle.table.specs.Header.{headed};
 ghost use Rattle.table.specs.Steps.{plainTable};
-ghost use Rattle.heading.specs.Finished.{Given};
+ghost use Rattle.headed_answers.specs.Finished.{Given};
 ghost use Rattle.plain_answers.specs.Formable.{Formable};
 
 // The plain form of accepted words, under its header. No form has more than two words for each of them and two more, so no more of the
@@ -14,11 +14,11 @@ pub fn answer(words: &[u32], result: &mut [u32]) -> Answer
     ensures { λ r. ⌜ Given (headed (plainTable (now (words .entry)))) (now (result .entry)) (now (result .exit)) r ⌝ }
 {
     if result.len() == 0 {
-        return heading::finish(result, 0);
+        return headed_answers::finish(result, 0);
     }
     let lent = lesser(result.len(), 2 * words.len() + 3);
     let n = plain_rooms::write(words, &mut result[1..lent]);
-    heading::finish(result, n)
+    headed_answers::finish(result, n)
 }
 
 fn lesser(a: usize, b: usize) -> usize

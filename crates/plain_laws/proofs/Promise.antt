@@ -39,7 +39,7 @@ use Rattle.numbering.proofs.Accepted.{plain-small, accepted-tableOf}
 use Rattle.plain_draft.specs.Forming.{formOf, slotOf}
 use Rattle.plain_draft.proofs.Filling.{slot-same, slot-bounds}
 use Rattle.logic.proofs.Pigeonhole.{pigeonhole}
-use Rattle.logic.proofs.Letters.{letters-plain}
+use Rattle.transforms.proofs.Letters.{letters-plain}
 
 -- the letters of a formula are 1 to 32
 abbrev Lettered : Formula → Type 0

@@ -1,19 +1,26 @@
--- What a plain form is drafted and numbered with in a room of a size, where nothing is drafted or numbered yet.
-use Prim.Native.Nat.{ℕ, _+_, _*_, _/_, _≤_, _<_}
+-- What a plain form is drafted with in a room of a size, where nothing is drafted yet, and what numbering it writes.
+use Prim.Native.Nat.{ℕ, _+_, _*_, _≤_, _<_}
 use native.Mathlib.Omega.{arith}
+use mathlib.Core.Path.{_≡_, sym}
+use mathlib.Core.Bool.{true, false}
 use mathlib.Core.List.{List}
 use lib.ListN.{length, replicate, length-replicate}
+use Rattle.logic.specs.NegationNormalForm.{plain}
+use Rattle.transforms.proofs.Letters.{letters-plain}
 use Rattle.logic.proofs.Numbers.{getD-zeros}
-use Rattle.table.specs.Numbering.{room}
-use Rattle.placing.specs.State.{state}
-use Rattle.draft.specs.Numberable.{Fresh}
-use Rattle.draft.proofs.Fresh.{fresh}
+use Rattle.table.specs.Table.{rule}
+use Rattle.table.specs.Steps.{plainTable}
+use Rattle.numbering.proofs.Accepted.{rule-small}
+use Rattle.placing.specs.Written.{Written}
+use Rattle.draft.specs.Drafted.{Drafted}
+use Rattle.number_rooms.specs.Rooms as numbers
+use Rattle.number_rooms.proofs.Rooms.{still-long}
 use Rattle.plain_rooms.specs.Rooms.{Empty, Asked}
 
--- a room of n slots for the forms of a table, and an index of m numbers
-module _ (most n m : ℕ) {t out : List ℕ} (q : Asked most t out) (slots : 2 * most + 2 ≤ n) where
-  pub nothing-drafted : n ≤ 1048576 → Empty t (replicate n 0)
-  nothing-drafted h = record {
+-- a draft of n slots for the forms of a table
+module _ (most n : ℕ) {t out : List ℕ} (q : Asked most t out) where
+  pub nothing-drafted : 2 * most + 2 ≤ n → n ≤ 1048576 → Empty t (replicate n 0)
+  nothing-drafted slots h = record {
     limit = q .limit;
     accepted = q .accepted;
     slots = omega (arith, length-replicate {A = ℕ} n 0, q .few);
@@ -21,8 +28,13 @@ module _ (most n m : ℕ) {t out : List ℕ} (q : Asked most t out) (slots : 2 *
     empty = getD-zeros n;
   }
 
-  pub nothing-numbered : room (2 * most + 2) < m / 2 → m ≤ 32768 → Fresh (replicate n 0) (replicate n 0) (replicate n 0) (state out (replicate m 0))
-  nothing-numbered h k = fresh n m out (omega (arith, q .few, q .lent)) k
+  module _ {d : List ℕ} {root : ℕ} (f : Drafted d (plain true (rule t)) root) where
+    pub to-number : 2 * most + 2 ≤ n → length d ≡ length (replicate {A = ℕ} n 0) → numbers.Asked n d root out
+    to-number slots same = record { formula = plain true (rule t); drafted = f; long = sym (still-long n same); lent = omega (arith, q .few, q .lent) }
+
+    pub form-written : {made : List ℕ} {r : ℕ} → numbers.Made d root out made r → Written (plainTable t) out made r
+    unfolding plainTable
+    form-written m = m .written (plain true (rule t)) f (letters-plain (λ p. p < 16384) true (rule t) (rule-small false (q .limit) t (q .accepted)))
 
 -- a table of fewer words asks for a smaller room
 pub asked-fewer : {most fewer : ℕ} {t out : List ℕ} → Asked most t out → length t ≤ fewer → Asked fewer t out

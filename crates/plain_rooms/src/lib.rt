@@ -1,14 +1,11 @@
-// A plain form drafted and numbered, in a draft, numbers, a stack and an index of the size that the table can need: short tables pay for no more.
-use draft::number;
+// A plain form drafted and numbered, in a draft of the size that the table can need: short tables pay for no more.
 use slots::slot;
 ghost use mathlib.Core.Bool.{true};
 ghost use Rattle.logic.specs.NegationNormalForm.{plain};
 ghost use Rattle.table.specs.Table.{rule};
 ghost use Rattle.table.specs.Steps.{plainTable};
 ghost use Rattle.draft.specs.Drafted.{Drafted};
-ghost use Rattle.placing.specs.State.{state};
 ghost use Rattle.placing.specs.Written.{Written};
-ghost use Rattle.draft.specs.Numberable.{Fresh};
 ghost use Rattle.plain_rooms.specs.Rooms.{Empty, Asked};
 
 // The draft of the whole rule, in slots that are all empty: the slot of its plain form.
@@ -21,39 +18,13 @@ fn draft_rule(table: &[u32], draft: &mut [u64]) -> usize
     plain_draft::wanted(table, draft, table.len())
 }
 
-// With no slot filled or numbered yet, and an index of no words.
-fn write_in(
-    table: &[u32],
-    draft: &mut [u64],
-    numbers: &mut [u16],
-    stack: &mut [u32],
-    result: &mut [u32],
-    index: &mut [u16],
-) -> usize
-    requires { ⌜ Empty (now table) (now draft) ⌝ }
-    requires { ⌜ Fresh (now draft) (now numbers) (now stack) (state (now result) (now index)) ⌝ }
-    ensures { λ r. ⌜ Written (plainTable (now (table .entry))) (now (result .entry)) (now (result .exit)) r ⌝ }
-{
-    let root = draft_rule(table, &mut *draft);
-    number::number(&*draft, root, numbers, stack, result, index)
-}
-
 fn of_64(table: &[u32], result: &mut [u32]) -> usize
     requires { ⌜ Asked 64 (now table) (now result) ⌝ }
     ensures { λ r. ⌜ Written (plainTable (now (table .entry))) (now (result .entry)) (now (result .exit)) r ⌝ }
 {
     let mut draft = [0u64; 130];
-    let mut numbers = [0u16; 130];
-    let mut stack = [0u32; 130];
-    let mut index = [0u16; 262];
-    write_in(
-        table,
-        &mut draft,
-        &mut numbers,
-        &mut stack,
-        result,
-        &mut index,
-    )
+    let root = draft_rule(table, &mut draft);
+    number_rooms::of_130(&draft, root, result)
 }
 
 fn of_256(table: &[u32], result: &mut [u32]) -> usize
@@ -61,17 +32,8 @@ fn of_256(table: &[u32], result: &mut [u32]) -> usize
     ensures { λ r. ⌜ Written (plainTable (now (table .entry))) (now (result .entry)) (now (result .exit)) r ⌝ }
 {
     let mut draft = [0u64; 514];
-    let mut numbers = [0u16; 514];
-    let mut stack = [0u32; 514];
-    let mut index = [0u16; 1030];
-    write_in(
-        table,
-        &mut draft,
-        &mut numbers,
-        &mut stack,
-        result,
-        &mut index,
-    )
+    let root = draft_rule(table, &mut draft);
+    number_rooms::of_514(&draft, root, result)
 }
 
 // The plain form's table at the front of the result, and its length; 0 where it does not fit.

@@ -1,6 +1,6 @@
 // Why a call is refused, a case for each number of document 01's check table and of the requests after it, with the place of a faulty word or byte.
 ghost use mathlib.Core.Path.{_≡_};
-ghost use Rattle.refusals.specs.Refusals.{reportOf, outcomeReport};
+ghost use Rattle.refusals.specs.Refusals.{reportOf};
 
 pub enum Refusal {
     NoWord,
@@ -76,14 +76,5 @@ pub fn report_of(r: Refusal) -> Report
         Refusal::DrivenCountsDiffer => Report(27, 0),
         Refusal::NotDeltaTwo => Report(28, 0),
         Refusal::StateOutside => Report(6, 0),
-    }
-}
-
-pub fn outcome_report(o: Outcome) -> Report
-    ensures { λ s. ⌜ s ≡ outcomeReport o ⌝ }
-{
-    match o {
-        Outcome::Accepted => Report(0, 0),
-        Outcome::Refused(r) => report_of(r),
     }
 }

@@ -11,9 +11,17 @@ pub fn reply(o: Outcome, place: &mut usize) -> u32
     ensures { λ r. ⌜ r ≡ outcomeNumber o ⌝ }
     ensures { λ r. ⌜ now (place .exit) ≡ outcomePlace o ⌝ }
 {
-    let report = refusals::outcome_report(o);
-    *place = report.1;
-    report.0
+    match o {
+        Outcome::Accepted => {
+            *place = 0;
+            0
+        }
+        Outcome::Refused(r) => {
+            let report = refusals::report_of(r);
+            *place = report.1;
+            report.0
+        }
+    }
 }
 
 // How many words a table has, or the refusal, in lent numbers.

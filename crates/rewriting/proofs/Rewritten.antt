@@ -5,8 +5,8 @@ use mathlib.Core.Logic.{_⊎_, inl, inr}
 use mathlib.Core.Path.{_≡_, refl, sym, ap, _∙_}
 use mathlib.Core.Bool.{Bool, true}
 use Rattle.logic.specs.Formula.{Formula, Unary, Binary, const, lit, un, bin, next, conj, disj, until, weak, release, strong, implies}
-use Rattle.logic.specs.Rewriting.{steady, recurring, opening}
-use Rattle.logic.specs.NormalForm.{isLeast, isGreatest}
+use Rattle.transforms.specs.Rewriting.{steady, recurring, opening}
+use Rattle.transforms.specs.NormalForm.{isLeast, isGreatest}
 use Rattle.table.specs.Node.{Shape, constant, letter, unary, binary, kind, left, right, shape, binaryKind, kindOf}
 use Rattle.table.specs.Table.{formulaBy}
 use Rattle.table.proofs.Shapes.{shape-unary, shape-binary, kindOf-shape}

@@ -3,8 +3,8 @@ use Prim.Native.Nat.{ℕ, _<_}
 use mathlib.Core.Path.{_≡_}
 use mathlib.Core.Bool.{Bool, true, cond}
 use Rattle.logic.specs.Formula.{Formula, Binary, const, lit, un, bin, conj, disj, until, weak, release, strong, implies}
-use Rattle.logic.specs.Rewriting.{steady, recurring, opening}
-use Rattle.logic.specs.NormalForm.{isLeast, isGreatest}
+use Rattle.transforms.specs.Rewriting.{steady, recurring, opening}
+use Rattle.transforms.specs.NormalForm.{isLeast, isGreatest}
 use Rattle.table.specs.Node.{Shape, none, constant, letter, unary, binary, kind, left, right, shape, unaryKind, binaryKind}
 use Rattle.table.specs.Table.{formulaBy}
 use Rattle.slots.specs.Slot.{pack}

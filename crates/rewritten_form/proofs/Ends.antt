@@ -26,9 +26,9 @@ use Rattle.table.proofs.Stated.{permitted}
 use Rattle.placing.specs.Written.{Written, Ends}
 use Rattle.placing.proofs.Placing.{true-fits}
 use Rattle.placing.proofs.Written.{ends-refused}
-use Rattle.heading.specs.Finished.{Finishable, Finished, Given}
-use Rattle.heading.proofs.Ends.{given-ends}
-use Rattle.heading.proofs.Lent.{lent-finishable, lent-given}
+use Rattle.headed_answers.specs.Finished.{Finishable, Finished, Given}
+use Rattle.headed_answers.proofs.Ends.{given-ends}
+use Rattle.headed_answers.proofs.Lent.{lent-finishable, lent-given}
 use Rattle.normal_laws.proofs.Promise.{normal-accepted}
 use Rattle.fixpoint_checks.specs.Past.{Past}
 use Rattle.form_rooms.specs.Rooms.{Accepted}

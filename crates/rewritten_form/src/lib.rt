@@ -5,7 +5,7 @@ use table::answer::Form;
 use table::settings::Limits;
 ghost use Rattle.table.specs.Header.{headed};
 ghost use Rattle.table.specs.Steps.{normalTable};
-ghost use Rattle.heading.specs.Finished.{Given};
+ghost use Rattle.headed_answers.specs.Finished.{Given};
 ghost use Rattle.form_rooms.specs.Rooms.{Accepted};
 ghost use Rattle.rewritten_form.specs.Forms.{Rewritable, Formed};
 
@@ -30,8 +30,8 @@ fn answer(words: &[u32], result: &mut [u32]) -> Answer
     ensures { λ r. ⌜ Given (headed (normalTable (now (words .entry)))) (now (result .entry)) (now (result .exit)) r ⌝ }
 {
     if result.len() == 0 {
-        return heading::finish(result, 0);
+        return headed_answers::finish(result, 0);
     }
     let n = forms::form(words, &mut result[1..]);
-    heading::finish(result, n)
+    headed_answers::finish(result, n)
 }

@@ -9,11 +9,11 @@ pub struct Progress {
 }
 
 // What comes next of the word w, whose entry is e.
-fn written(out: &mut [u8], used: usize, e: u32, w: u32) -> usize {
+fn piece(e: u32, w: u32) -> u64 {
     match stack::state(e) {
-        0 => writing::start(out, used, w),
-        1 => writing::operator(out, used, w),
-        _ => writing::put(out, used, b')'),
+        0 => writing::start(w),
+        1 => writing::operator(w),
+        _ => writing::end(),
     }
 }
 
@@ -35,7 +35,7 @@ pub fn fill(table: &[u32], stack: &mut [u32], from: usize, out: &mut [u8]) -> Pr
         let e = stack::top(stack, depth);
         let w = stack::word_of(table, e);
         depth = stack::next(&mut *stack, depth, e, w);
-        used = written(&mut *out, used, e, w);
+        used = writing::put(&mut *out, used, piece(e, w));
         turns -= 1;
     }
     Progress { depth, used }

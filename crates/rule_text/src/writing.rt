@@ -1,87 +1,89 @@
-// The bytes of a rule's text, put into a buffer one after the other. Each function answers how many bytes are used then.
-pub fn put(out: &mut [u8], used: usize, b: u8) -> usize {
-    if used < out.len() {
-        out[used] = b;
-        return used + 1;
-    }
-    used
+// The pieces of a rule's text, each of at most five bytes, in a number, the first byte lowest; a byte 0 comes after the last.
+
+// false, true and the operators between two operands, with the spaces around them.
+const FALSE: u64 = 0x65736C6166;
+
+const TRUE: u64 = 0x65757274;
+
+const AND: u64 = 0x202620;
+
+const OR: u64 = 0x207C20;
+
+const UNTIL: u64 = 0x205520;
+
+const WEAK: u64 = 0x205720;
+
+const RELEASE: u64 = 0x205220;
+
+const STRONG: u64 = 0x204D20;
+
+const IMPLIES: u64 = 0x203E2D20;
+
+// The piece of one byte.
+fn byte(b: u8) -> u64 {
+    b as u64
 }
 
-fn put_two(out: &mut [u8], used: usize, a: u8, b: u8) -> usize {
-    let one = put(&mut *out, used, a);
-    put(out, one, b)
-}
-
-fn put_three(out: &mut [u8], used: usize, a: u8, b: u8, c: u8) -> usize {
-    let one = put(&mut *out, used, a);
-    put_two(out, one, b, c)
-}
-
-fn put_all(out: &mut [u8], used: usize, s: &[u8]) -> usize {
-    let mut at = used;
-    let mut i: usize = 0;
-    while i < s.len() {
-        at = put(&mut *out, at, s[i]);
-        i += 1;
-    }
-    at
+// A byte, and then a piece.
+fn before(b: u8, piece: u64) -> u64 {
+    byte(b) | (piece << 8)
 }
 
 fn digit(n: usize) -> u8 {
     48 + (n % 10) as u8
 }
 
-fn letter(out: &mut [u8], used: usize, n: usize) -> usize {
+fn letter(n: usize) -> u64 {
+    let last = byte(digit(n));
     if n < 10 {
-        return put_two(out, used, b'p', digit(n));
+        return before(b'p', last);
     }
-    put_three(out, used, b'p', digit(n / 10), digit(n))
-}
-
-fn negated(out: &mut [u8], used: usize, n: usize) -> usize {
-    let not = put(&mut *out, used, b'!');
-    letter(out, not, n)
-}
-
-// The sign of an operator before its operand, or the bracket before two.
-fn opening(kind: u32) -> u8 {
-    match kind {
-        7 => b'X',
-        12 => b'!',
-        13 => b'F',
-        14 => b'G',
-        _ => b'(',
-    }
+    before(b'p', before(digit(n / 10), last))
 }
 
 // The start of a word: all of it, or what stands before its first operand.
-pub fn start(out: &mut [u8], used: usize, w: u32) -> usize {
-    let kind = word::kind(w);
-    match kind {
-        0 | 1 => put_all(out, used, b"false"),
-        2 => put_all(out, used, b"true"),
-        3 => letter(out, used, word::right(w)),
-        4 => negated(out, used, word::right(w)),
-        _ => put(out, used, opening(kind)),
-    }
-}
-
-fn sign(kind: u32) -> u8 {
-    match kind {
-        5 => b'&',
-        6 => b'|',
-        8 => b'U',
-        9 => b'W',
-        10 => b'R',
-        _ => b'M',
+pub fn start(w: u32) -> u64 {
+    match word::kind(w) {
+        0 | 1 => FALSE,
+        2 => TRUE,
+        3 => letter(word::right(w)),
+        4 => before(b'!', letter(word::right(w))),
+        7 => byte(b'X'),
+        12 => byte(b'!'),
+        13 => byte(b'F'),
+        14 => byte(b'G'),
+        _ => byte(b'('),
     }
 }
 
 // The operator between two operands.
-pub fn operator(out: &mut [u8], used: usize, w: u32) -> usize {
-    let kind = word::kind(w);
-    if kind == 15 {
-        return put_all(out, used, b" -> ");
+pub fn operator(w: u32) -> u64 {
+    match word::kind(w) {
+        5 => AND,
+        6 => OR,
+        8 => UNTIL,
+        9 => WEAK,
+        10 => RELEASE,
+        15 => IMPLIES,
+        _ => STRONG,
     }
-    put_three(out, used, b' ', sign(kind), b' ')
+}
+
+pub fn end() -> u64 {
+    byte(b')')
+}
+
+// A piece put into a buffer after the bytes that are used, as far as there is room; how many bytes are used then.
+pub fn put(out: &mut [u8], used: usize, piece: u64) -> usize {
+    let mut at = used;
+    let mut left = piece;
+    while at < out.len() {
+        if left == 0 {
+            return at;
+        }
+        out[at] = (left % 256) as u8;
+        at += 1;
+        left = left / 256;
+    }
+    at
 }

@@ -12,7 +12,7 @@ use borrow.Author.Tests.{eq-eqb, ne-eqb}
 use Rattle.logic.specs.Bit.{bit}
 use Rattle.logic.specs.Formula.{Formula, next, neg, finally, globally, conj, disj, until, weak, release, strong, implies}
 use Rattle.logic.specs.ClassByte.{inΣ₁, inΠ₁, inΣ₂, inΠ₂, tests, testAll, classByte}
-use Rattle.logic.specs.NormalForm.{keep}
+use Rattle.transforms.specs.NormalForm.{keep}
 use Rattle.logic.proofs.Hierarchy.Bits.{ofBits-bit}
 use Rattle.logic.proofs.Numbers.{lt-or-le}
 use Rattle.table.specs.Node.{Shape, none, constant, letter, unary, binary, shape, kindOf}

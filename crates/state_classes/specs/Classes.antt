@@ -4,7 +4,7 @@ use mathlib.Core.Bool.{Bool, _&&_, _||_, cond}
 use mathlib.Core.List.{List, [], _∷_, map}
 use lib.Dec.{leb, eqb}
 use Rattle.logic.specs.Bit.{bit}
-use Rattle.logic.specs.NormalForm.{keep}
+use Rattle.transforms.specs.NormalForm.{keep}
 use Rattle.table.specs.Node.{pack}
 
 -- 3, 4 and 7 to 11: neither constant, and, nor or

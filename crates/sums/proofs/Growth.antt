@@ -4,7 +4,7 @@ use native.Mathlib.Omega.{arith}
 use mathlib.Core.Path.{_≡_, refl, sym, subst, subst₂}
 use mathlib.Core.Bool.{Bool, false}
 use Rattle.logic.specs.Formula.{Formula, const, lit, un, bin, disj}
-use Rattle.logic.specs.Folding.{Fold, stands, byConstant, onLeft, onRight, foldBinary}
+use Rattle.transforms.specs.Folding.{Fold, stands, byConstant, onLeft, onRight, foldBinary}
 use Rattle.table.specs.Node.{pack, binaryKind}
 use Rattle.table.specs.Numbering.{put, constantWord, build}
 use Rattle.numbering.proofs.Building.{Grows, grows-trans, put-grows, build-grows, build-const, build-bin}

@@ -3,7 +3,7 @@ use placing::put;
 use table::kinds;
 ghost use mathlib.Core.Path.{_≡_};
 ghost use Rattle.logic.specs.Formula.{Formula, disj};
-ghost use Rattle.logic.specs.Folding.{foldBinary};
+ghost use Rattle.transforms.specs.Folding.{foldBinary};
 ghost use Rattle.draft.specs.Drafted.{Drafted};
 ghost use Rattle.table.specs.Numbering.{build};
 ghost use Rattle.placing.specs.State.{State, state, written, Numbered, Placing};

@@ -4,8 +4,8 @@ use mathlib.Core.Path.{_≡_, refl}
 use mathlib.Core.List.{List, [], _∷_}
 use Rattle.logic.specs.Bit.{bit}
 use Rattle.logic.specs.Lasso.{letterIn}
-use Rattle.logic.specs.Folding.{fold, foldUnary, foldBinary}
-use Rattle.logic.specs.After.{after}
+use Rattle.transforms.specs.Folding.{fold, foldUnary, foldBinary}
+use Rattle.transforms.specs.After.{after}
 use Rattle.refusals.specs.declared.Refusal.the-variants.{LetterNotDriven, TooManyDriven}
 use Rattle.refusals.specs.declared.Outcome.the-variants.{Refused}
 use Rattle.refusals.specs.Refusals.{first}

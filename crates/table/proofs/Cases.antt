@@ -15,9 +15,9 @@ use Rattle.logic.specs.Bit.{bit}
 use Rattle.logic.specs.Lasso.{word, place, letterIn}
 use Rattle.logic.specs.ClassByte.{classByte}
 use Rattle.logic.specs.NegationNormalForm as negation
-use Rattle.logic.specs.Rewriting.{steady, recurring, opening}
-use Rattle.logic.specs.NormalForm.{normalForm, choices, choicesOf, part, chosen, leastOf, greatestOf}
-use Rattle.logic.specs.Folding.{fold, foldUnary, foldBinary}
+use Rattle.transforms.specs.Rewriting.{steady, recurring, opening}
+use Rattle.transforms.specs.NormalForm.{normalForm, choices, choicesOf, part, chosen, leastOf, greatestOf}
+use Rattle.transforms.specs.Folding.{fold, foldUnary, foldBinary}
 use Rattle.logic.specs.Truth.{truth, sweep}
 use Rattle.logic.proofs.Tests.{T-and, T-beq, allPass, pass-at}
 use Rattle.logic.proofs.Lasso.Truth.{truth-holds}

@@ -7,10 +7,10 @@ use Rattle.logic.specs.Bit.{bit}
 use Rattle.logic.specs.Formula.{Formula}
 use Rattle.logic.specs.ClassByte.{classByte}
 use Rattle.logic.specs.NegationNormalForm.{plain}
-use Rattle.logic.specs.NormalForm.{keep, isFixpoint, normalForm}
-use Rattle.logic.specs.Dialect.{dialect}
-use Rattle.logic.specs.Folding.{fold}
-use Rattle.logic.specs.After.{after}
+use Rattle.transforms.specs.NormalForm.{keep, isFixpoint, normalForm}
+use Rattle.transforms.specs.Dialect.{dialect}
+use Rattle.transforms.specs.Folding.{fold}
+use Rattle.transforms.specs.After.{after}
 use Rattle.table.specs.Table.{formulas, rule}
 use Rattle.table.specs.Numbering.{tableOf}
 

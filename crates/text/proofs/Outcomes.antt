@@ -24,8 +24,8 @@ use Rattle.table.specs.Frame.{answerOf, resultOf}
 use Rattle.refusals.proofs.First.{first-refusal}
 use Rattle.table.proofs.Stated.{permitted, permitted-checks, outside-checks}
 use Rattle.table.proofs.Frame.{Early, stated-early, refused-answer, refused-result}
-use Rattle.heading.specs.Finished.{Given}
-use Rattle.heading.proofs.Ends.{given-ends}
+use Rattle.headed_answers.specs.Finished.{Given}
+use Rattle.headed_answers.proofs.Ends.{given-ends}
 use Rattle.placing.specs.State as draft
 use Rattle.placing.proofs.Putting.{written-length, numbered-none}
 use Rattle.grammar.specs.Reader.{readingOf, departureOf}

@@ -11,7 +11,7 @@ use lib.Pow.{shl-exact}
 use lib.Dec.{eqb}
 use borrow.Author.Tests.{eqb-true, eqb-false}
 use Rattle.logic.specs.Formula.{Formula, const}
-use Rattle.logic.proofs.Normal.TrueParts.{true-part}
+use Rattle.transforms.proofs.Normal.TrueParts.{true-part}
 use Rattle.table.specs.Table.{rule}
 use Rattle.table.specs.Steps.{fixpoints}
 use Rattle.slots.specs.Slot.{kind}

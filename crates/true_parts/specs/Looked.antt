@@ -4,9 +4,9 @@ use mathlib.Core.Path.{_≡_}
 use mathlib.Core.Bool.{Bool, true, false}
 use mathlib.Core.List.{List}
 use Rattle.logic.specs.Formula.{Formula, const}
-use Rattle.logic.specs.Rewriting.{opening}
-use Rattle.logic.specs.NormalForm.{member, leastOf}
-use Rattle.logic.specs.Folding.{fold}
+use Rattle.transforms.specs.Rewriting.{opening}
+use Rattle.transforms.specs.NormalForm.{member, leastOf}
+use Rattle.transforms.specs.Folding.{fold}
 use Rattle.table.specs.Table.{rule}
 use Rattle.table.specs.Steps.{fixpoints}
 use Rattle.parts.specs.Parts.{foldedPart}

@@ -9,7 +9,7 @@ use lib.Dec.{T, eqb}
 use Rattle.logic.specs.Bit.{bit}
 use Rattle.logic.specs.Formula.{Formula, const}
 use Rattle.logic.specs.ClassByte.{tests, testAll, classByte, inΣ₁, inΠ₁, inΣ₂, inΠ₂}
-use Rattle.logic.specs.NormalForm.{keep}
+use Rattle.transforms.specs.NormalForm.{keep}
 use Rattle.logic.proofs.Hierarchy.Bits.{ofBits-bit}
 use Rattle.automata.specs.Positive.{Positive, anyOf}
 use Rattle.automata_laws.specs.StateClass.{StateClass, sigma₁, pi₁, sigma₂, pi₂, classBit, inClass, within, every, isSmallest, smallestIn}

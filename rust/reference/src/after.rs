@@ -1,11 +1,11 @@
 //! What remains of a rule after a sample (document 02, N12, after source 000's after function), before it is folded (`fold`).
 use crate::forest::{Forest, Node, Tree};
-use std::collections::HashMap;
+use crate::map::Map;
 
 /// What remains of each of these trees, which are plain, given the letters that hold now; operands come before what is made of them. Nothing
 /// here calls itself: a rule can be 16,383 words deep.
 pub fn after(forest: &mut Forest, trees: &[Tree], holds: impl Fn(usize) -> bool) -> Vec<Tree> {
-    let mut remainders: HashMap<Tree, Tree> = HashMap::new();
+    let mut remainders: Map<Tree, Tree> = Map::default();
     for &tree in trees {
         let of = |operand: Tree| remainders[&operand];
         let constant = |holds: bool| if holds { Node::True } else { Node::False };

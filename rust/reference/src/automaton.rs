@@ -1,7 +1,7 @@
 //! The alternating automaton of a rule (document 02, N14, after source 002, section 7.2): its states, its start and its moves.
 use crate::class::{Class, Classes, BITS};
 use crate::forest::{Forest, Node, Tree};
-use std::collections::HashMap;
+use crate::map::Map;
 
 /// A proper word, which is neither constant, and, nor or, with a smallest one of the classes that hold it.
 #[derive(Clone, Copy, PartialEq, Eq, Hash, Debug)]
@@ -42,8 +42,8 @@ pub struct Automaton {
     trees: Vec<Tree>,
     states: Vec<State>,
     /// Those of each proper word.
-    of_tree: HashMap<Tree, Vec<State>>,
-    numbers: HashMap<State, usize>,
+    of_tree: Map<Tree, Vec<State>>,
+    numbers: Map<State, usize>,
 }
 
 impl Automaton {
@@ -56,7 +56,7 @@ impl Automaton {
             held.iter().filter(|&&class| !smaller(class)).map(|&class| State { tree, class }).collect()
         };
         let proper = trees.iter().copied().filter(|&tree| is_proper(forest.node(tree)));
-        let of_tree: HashMap<Tree, Vec<State>> = proper.clone().map(|tree| (tree, smallest(tree))).collect();
+        let of_tree: Map<Tree, Vec<State>> = proper.clone().map(|tree| (tree, smallest(tree))).collect();
         let states: Vec<State> = proper.flat_map(|tree| of_tree[&tree].clone()).collect();
         let numbers = states.iter().copied().zip(1..).collect();
         Automaton { trees: trees.to_vec(), states, of_tree, numbers }
@@ -79,8 +79,8 @@ impl Automaton {
 
     /// Every word that lies in a class, let down: constants stay, and and or go down, and a first proper word stands as the or of its states
     /// whose class is this one or lies within it. A state is a letter with its number.
-    fn let_down(&self, forest: &mut Forest, class: Class) -> HashMap<Tree, Tree> {
-        let mut down: HashMap<Tree, Tree> = HashMap::new();
+    fn let_down(&self, forest: &mut Forest, class: Class) -> Map<Tree, Tree> {
+        let mut down: Map<Tree, Tree> = Map::default();
         for &tree in &self.trees {
             let node = forest.node(tree);
             let made = if is_proper(node) {
@@ -103,8 +103,8 @@ impl Automaton {
     pub fn moves(&self, forest: &mut Forest, holds: impl Fn(usize) -> bool) -> Vec<Tree> {
         let down = STATE_CLASSES.map(|class| self.let_down(forest, class));
         // of each word in each class: the or of the moves of its states whose class is that one or lies within it
-        let mut moved: [HashMap<Tree, Tree>; 4] = Default::default();
-        let mut moves: HashMap<State, Tree> = HashMap::new();
+        let mut moved: [Map<Tree, Tree>; 4] = Default::default();
+        let mut moves: Map<State, Tree> = Map::default();
         let place = |class: Class| STATE_CLASSES.iter().position(|&other| other == class).expect("a class of states");
         for &tree in &self.trees {
             let node = forest.node(tree);
@@ -135,8 +135,8 @@ fn step(
     forest: &mut Forest,
     node: Node,
     itself: Tree,
-    down: &HashMap<Tree, Tree>,
-    moved: &HashMap<Tree, Tree>,
+    down: &Map<Tree, Tree>,
+    moved: &Map<Tree, Tree>,
     holds: impl Fn(usize) -> bool,
 ) -> Tree {
     let constant = |holds: bool| if holds { Node::True } else { Node::False };
@@ -157,7 +157,7 @@ fn step(
 }
 
 /// A constant, or an and or or of what its operands became; nothing where one of them became nothing.
-fn under(forest: &mut Forest, node: Node, of: &HashMap<Tree, Tree>) -> Option<Tree> {
+fn under(forest: &mut Forest, node: Node, of: &Map<Tree, Tree>) -> Option<Tree> {
     let node = match node {
         Node::And(a, b) => Node::And(*of.get(&a)?, *of.get(&b)?),
         Node::Or(a, b) => Node::Or(*of.get(&a)?, *of.get(&b)?),

@@ -1,8 +1,8 @@
 //! The check table of documents 01 and 02. Every condition that applies is gathered with its rank, and the lowest rank is returned:
 //! "places run downward; the first that applies is returned". Check 25 comes before all of them (`limits`), and 12 after (`fits`).
 use crate::header::{count, is_right, words};
+use crate::map::Set;
 use crate::word::{Field, Word, MOST_WORDS};
-use std::collections::HashSet;
 
 /// A refusal: document 01's number, and the place of the faulty word, 0 where there is none.
 #[derive(Clone, Copy, PartialEq, Eq, Debug)]
@@ -53,8 +53,8 @@ impl Faults {
 
     /// Checks 3 to 10, of words without their header.
     pub fn words(&mut self, words: &[u32], plain_only: bool) -> &mut Faults {
-        let mut seen = HashSet::new();
-        let mut used = HashSet::new();
+        let mut seen = Set::default();
+        let mut used = Set::default();
         for (n, &bits) in (1..).zip(words) {
             let word = Word::of(bits);
             self.word(n, word, plain_only);

@@ -1,7 +1,7 @@
 //! Definition 5 of source 002: each class is a set of trees, the least that contains some classes and is closed under some
 //! operators. Document 01 adds that true and false are in class zero.
 use crate::forest::{Forest, Node, Tree};
-use std::collections::{HashMap, HashSet};
+use crate::map::{Map, Set};
 
 #[derive(Clone, Copy, PartialEq, Eq, Hash, Debug)]
 pub enum Class {
@@ -17,7 +17,7 @@ pub const BITS: [Class; 7] =
 
 #[derive(Default)]
 pub struct Classes {
-    members: HashMap<Class, HashSet<Tree>>,
+    members: Map<Class, Set<Tree>>,
 }
 
 impl Classes {

@@ -1,10 +1,10 @@
 //! The dialect without W and M (document 02, N4): a W b becomes b R (a or b), and a M b becomes b U (a and b).
 use crate::forest::{Forest, Node, Tree};
-use std::collections::HashMap;
+use crate::map::Map;
 
 /// The conversion of each of these trees, which are plain; operands come before what is made of them.
 pub fn convert(forest: &mut Forest, trees: &[Tree]) -> Vec<Tree> {
-    let mut converted: HashMap<Tree, Tree> = HashMap::new();
+    let mut converted: Map<Tree, Tree> = Map::default();
     for &tree in trees {
         let of = |operand: Tree| converted[&operand];
         let node = match forest.node(tree) {

@@ -1,11 +1,11 @@
 //! Folding (document 02, N8): a word over a constant is one of its operands where the document says so.
 use crate::forest::{Forest, Node, Tree};
 use crate::listing::needed;
-use std::collections::HashMap;
+use crate::map::Map;
 
 /// A plain tree folded from its leaves upward. A shared tree is folded once.
 pub fn fold(forest: &mut Forest, root: Tree) -> Tree {
-    let mut folded: HashMap<Tree, Tree> = HashMap::new();
+    let mut folded: Map<Tree, Tree> = Map::default();
     for tree in needed(forest, root) {
         let node = forest.node(tree).over(|operand| folded[&operand]);
         let made = make(forest, node);

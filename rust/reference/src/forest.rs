@@ -1,6 +1,6 @@
 //! Rules as trees. Equal trees are one and the same `Tree`, so that a rule whose tree is huge is as small as its table.
+use crate::map::Map;
 use crate::word::Word;
-use std::collections::HashMap;
 
 #[derive(Clone, Copy, PartialEq, Eq, Hash, PartialOrd, Ord, Debug)]
 pub struct Tree(u32);
@@ -47,7 +47,7 @@ impl Node {
 #[derive(Default)]
 pub struct Forest {
     nodes: Vec<Node>,
-    known: HashMap<Node, Tree>,
+    known: Map<Node, Tree>,
 }
 
 impl Forest {

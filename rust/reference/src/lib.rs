@@ -15,6 +15,7 @@ pub mod forest;
 pub mod header;
 pub mod limits;
 pub mod listing;
+pub mod map;
 pub mod normal;
 pub mod plain;
 pub mod program;

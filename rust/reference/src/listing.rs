@@ -1,13 +1,13 @@
 //! The table of a tree: words as first needed, left operand, right operand, then the word; an identical word is used again.
 use crate::forest::{Forest, Node, Tree};
+use crate::map::{Map, Set};
 use crate::word::Word;
-use std::collections::{HashMap, HashSet};
 
 /// The trees of a tree's table as first needed, each once, operands before what is made of them. Nothing here calls itself: a rule can be
 /// 16,383 words deep.
 pub fn needed(forest: &Forest, root: Tree) -> Vec<Tree> {
     let mut listed = Vec::new();
-    let mut seen: HashSet<Tree> = HashSet::new();
+    let mut seen: Set<Tree> = Set::default();
     // trees that are not listed yet, each an operand of the one before
     let mut waiting = vec![root];
     while let Some(&tree) = waiting.last() {
@@ -26,7 +26,7 @@ pub fn needed(forest: &Forest, root: Tree) -> Vec<Tree> {
 /// The words of a tree's table. Numbers are not held to the fields' 14 bits: a longer table fits no slice.
 pub fn list(forest: &Forest, root: Tree) -> Vec<Word> {
     let trees = needed(forest, root);
-    let numbers: HashMap<Tree, usize> = trees.iter().copied().zip(1..).collect();
+    let numbers: Map<Tree, usize> = trees.iter().copied().zip(1..).collect();
     let word = |&tree: &Tree| {
         let (kind, letter, operands) = parts(forest.node(tree));
         match operands[..] {

@@ -1,7 +1,8 @@
 //! The normal form: a part for each choice of until-like words, by three rewritings (document 01, after sections 5 and 6 of 002).
 use crate::forest::{Forest, Node, Tree};
+use crate::map::Map;
 use std::cmp::Reverse;
-use std::collections::{BTreeSet, HashMap};
+use std::collections::BTreeSet;
 
 /// The normal form of a rule, given its until-like subtrees in rising word number, before it is folded (`fold`).
 pub fn normal(forest: &mut Forest, rule: Tree, until_like: &[Tree]) -> Tree {
@@ -28,7 +29,7 @@ fn in_order(k: usize) -> Vec<u32> {
 pub fn part(forest: &mut Forest, rule: Tree, chosen: &[Tree]) -> Tree {
     let least = |f: &Forest, t: Tree| matches!(f.node(t), Node::Until(..) | Node::Strong(..));
     let (m, n): (Vec<Tree>, Vec<Tree>) = chosen.iter().partition(|&&t| least(forest, t));
-    let mut by = Rewritings { m: m.iter().copied().collect(), n: n.iter().copied().collect(), forest, known: HashMap::new() };
+    let mut by = Rewritings { m: m.iter().copied().collect(), n: n.iter().copied().collect(), forest, known: Map::default() };
     let mut part = by.rewrite(Form::Opening, rule);
     for member in m {
         let inner = by.rewrite(Form::Recurring, member);
@@ -56,7 +57,7 @@ struct Rewritings<'a> {
     forest: &'a mut Forest,
     m: BTreeSet<Tree>,
     n: BTreeSet<Tree>,
-    known: HashMap<(Form, Tree), Tree>,
+    known: Map<(Form, Tree), Tree>,
 }
 
 impl Rewritings<'_> {

@@ -1,16 +1,16 @@
 //! The plain form of a rule and the plain form of its denial, defined through each other.
 use crate::forest::{Forest, Node, Tree};
-use std::collections::HashMap;
+use crate::map::Map;
 
 pub struct Plain<'a> {
     forest: &'a mut Forest,
-    wanted: HashMap<Tree, Tree>,
-    denied: HashMap<Tree, Tree>,
+    wanted: Map<Tree, Tree>,
+    denied: Map<Tree, Tree>,
 }
 
 impl Plain<'_> {
     pub fn of(forest: &mut Forest, rule: Tree) -> Tree {
-        Plain { forest, wanted: HashMap::new(), denied: HashMap::new() }.wanted(rule)
+        Plain { forest, wanted: Map::default(), denied: Map::default() }.wanted(rule)
     }
 
     fn wanted(&mut self, tree: Tree) -> Tree {

@@ -1,6 +1,6 @@
 //! Looped recordings, and truth found by walking along one.
 use crate::forest::{Forest, Node, Tree};
-use std::collections::HashMap;
+use crate::map::Map;
 
 /// Samples, the loop start, and how many letters are driven: letters 1 to that one.
 #[derive(Clone, Copy)]
@@ -95,13 +95,13 @@ impl Recording<'_> {
 /// Truth of trees at every recorded moment.
 pub struct Truth<'a> {
     recording: Recording<'a>,
-    at: HashMap<Tree, Vec<bool>>,
+    at: Map<Tree, Vec<bool>>,
 }
 
 impl<'a> Truth<'a> {
     /// Of these trees; operands come before what is made of them.
     pub fn of(forest: &Forest, trees: &[Tree], recording: Recording<'a>) -> Truth<'a> {
-        let mut truth = Truth { recording, at: HashMap::new() };
+        let mut truth = Truth { recording, at: Map::default() };
         for &tree in trees {
             let moments = (0..recording.len()).map(|i| truth.holds(forest.node(tree), i)).collect();
             truth.at.insert(tree, moments);

@@ -8,9 +8,9 @@ use Rattle.filling.specs.Filled.{Laid}
 use Rattle.true_parts.proofs.Looks.{shifted}
 use Rattle.sums.specs.declared.Sum.the-variants.{Nothing}
 use Rattle.sums.specs.Summed.{Grown}
-use Rattle.choices.specs.Joining.{joined}
+use Rattle.part_sums.specs.Joining.{joined}
 use Rattle.choices.proofs.ChoiceOrder.{fewer, ones-grown, all-summed}
-use Rattle.choices.proofs.Parts.{grown-same, joinable-again}
+use Rattle.part_sums.proofs.Parts.{grown-same, joinable-again}
 use Rattle.choices.proofs.all.Statement.{statement}
 use Rattle.choices.proofs.all.Tie as tie
 

@@ -6,9 +6,9 @@ use lib.ListN.{length}
 use Rattle.placing.specs.State.{state}
 use Rattle.filling.specs.Filled.{Laid}
 use Rattle.sums.specs.Summed.{Grown}
-use Rattle.choices.specs.Joining.{joined}
+use Rattle.part_sums.specs.Joining.{joined}
 use Rattle.choices.proofs.ChoiceOrder.{from-top, none-yet, next-grown, all-grown}
-use Rattle.choices.proofs.Parts.{grown-same, joinable-again}
+use Rattle.part_sums.proofs.Parts.{grown-same, joinable-again}
 use Rattle.choices.proofs.with_ones.Statement.{statement}
 use Rattle.choices.proofs.with_ones.Tie as tie
 

@@ -1,8 +1,8 @@
 use borrow.Author.Needs.{needs}
 use Rattle.logic.specs.Formula.{const}
-use Rattle.logic.specs.NormalForm.{choices}
+use Rattle.transforms.specs.NormalForm.{choices}
 use mathlib.Core.Bool.{false}
-use Rattle.choices.specs.Joining.{joined}
+use Rattle.part_sums.specs.Joining.{joined}
 use Rattle.form_table.proofs.Whole.{form-true, placed-true, placed-sum, summed-numbered, ready-first, joinable-first}
 use Rattle.form_table.proofs.form.Statement.{statement}
 use Rattle.form_table.proofs.form.Tie as tie

@@ -2,7 +2,7 @@ use borrow.Author.Needs.{needs}
 use native.Mathlib.Omega.{arith}
 use mathlib.Core.Path.{refl}
 use denote.Ref.{now}
-use Rattle.heading.proofs.Ends.{given-short}
+use Rattle.headed_answers.proofs.Ends.{given-short}
 use Rattle.headed_copy.proofs.Copied.{copied-finishable, copied-given}
 use Rattle.headed_copy.proofs.write.Statement.{statement}
 use Rattle.headed_copy.proofs.write.Tie as tie

@@ -3,7 +3,7 @@ use native.Mathlib.Omega.{arith}
 use mathlib.Core.List.{List}
 use borrow.Author.Needs.{needs}
 use Rattle.logic.specs.Formula.{Formula}
-use Rattle.logic.specs.NormalForm as normal
+use Rattle.transforms.specs.NormalForm as normal
 use Rattle.table.specs.Table.{rule}
 use Rattle.table.specs.Steps.{fixpoints}
 use Rattle.parts.proofs.Foldable.{narrow, foldable}

@@ -8,7 +8,7 @@ use denote.Ref.{now}
 use mathlib.Core.Bool.{false}
 use Rattle.table.specs.Header.{body}
 use Rattle.table.proofs.Accepted.{accepted-well-formed}
-use Rattle.heading.proofs.Ends.{given-empty}
+use Rattle.headed_answers.proofs.Ends.{given-empty}
 use Rattle.plain_answers.proofs.Lent.{form-finishable, form-given}
 use Rattle.plain_answers.proofs.answer.Statement.{statement}
 use Rattle.plain_answers.proofs.answer.Tie as tie

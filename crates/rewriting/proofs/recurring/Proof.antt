@@ -1,5 +1,5 @@
 use Rattle.logic.specs.Formula.{weak, release}
-use Rattle.logic.specs.Rewriting.{recurring}
+use Rattle.transforms.specs.Rewriting.{recurring}
 use native.Mathlib.Omega.{arith}
 use borrow.Author.Needs.{needs}
 use mathlib.Core.Path.{refl, ap, _∙_}

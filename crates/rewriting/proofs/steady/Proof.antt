@@ -1,5 +1,5 @@
 use Rattle.logic.specs.Formula.{until, strong}
-use Rattle.logic.specs.Rewriting.{steady}
+use Rattle.transforms.specs.Rewriting.{steady}
 use native.Mathlib.Omega.{arith}
 use borrow.Author.Needs.{needs}
 use mathlib.Core.Path.{refl, ap, _∙_}

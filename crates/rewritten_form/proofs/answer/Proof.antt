@@ -1,7 +1,7 @@
 use borrow.Author.Needs.{needs}
 use mathlib.Core.Path.{refl}
 use denote.Ref.{now}
-use Rattle.heading.proofs.Ends.{given-empty}
+use Rattle.headed_answers.proofs.Ends.{given-empty}
 use Rattle.rewritten_form.proofs.Ends.{form-finishable, form-given}
 use Rattle.rewritten_form.proofs.answer.Statement.{statement}
 use Rattle.rewritten_form.proofs.answer.Tie as tie

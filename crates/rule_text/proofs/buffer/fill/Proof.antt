@@ -23,6 +23,7 @@ fill-spec =
     (search needs)
     (search needs)
     (search needs)
+    (search needs)
     (omega arith)
     (omega arith)
     (search needs)

@@ -1,2 +1,0 @@
--- What the promises about the parts of all choices cite.
-pub mod Joining

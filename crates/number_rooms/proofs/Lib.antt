@@ -1,0 +1,2 @@
+-- A draft numbered in rooms of a size.
+pub mod Rooms

@@ -1,0 +1,2 @@
+-- What a draft is numbered with.
+pub mod Rooms

@@ -1,0 +1,114 @@
+// A draft numbered from no words, with numbers, a stack and an index of the size that it needs: short drafts pay for no more.
+use draft::number;
+ghost use Rattle.number_rooms.specs.Rooms.{Asked, Made};
+
+// Each room is named by the slots of its drafts. The table of the root's formula at the front of the result, and its length; 0 where it does not fit.
+pub fn of_130(draft: &[u64], root: usize, result: &mut [u32]) -> usize
+    requires { ⌜ Asked 130 (now draft) root (now result) ⌝ }
+    ensures { λ r. ⌜ Made (now (draft .entry)) root (now (result .entry)) (now (result .exit)) r ⌝ }
+{
+    let mut numbers = [0u16; 130];
+    let mut stack = [0u32; 130];
+    let mut index = [0u16; 262];
+    number::number(draft, root, &mut numbers, &mut stack, result, &mut index)
+}
+
+pub fn of_195(draft: &[u64], root: usize, result: &mut [u32]) -> usize
+    requires { ⌜ Asked 195 (now draft) root (now result) ⌝ }
+    ensures { λ r. ⌜ Made (now (draft .entry)) root (now (result .entry)) (now (result .exit)) r ⌝ }
+{
+    let mut numbers = [0u16; 195];
+    let mut stack = [0u32; 195];
+    let mut index = [0u16; 392];
+    number::number(draft, root, &mut numbers, &mut stack, result, &mut index)
+}
+
+pub fn of_455(draft: &[u64], root: usize, result: &mut [u32]) -> usize
+    requires { ⌜ Asked 455 (now draft) root (now result) ⌝ }
+    ensures { λ r. ⌜ Made (now (draft .entry)) root (now (result .entry)) (now (result .exit)) r ⌝ }
+{
+    let mut numbers = [0u16; 455];
+    let mut stack = [0u32; 455];
+    let mut index = [0u16; 912];
+    number::number(draft, root, &mut numbers, &mut stack, result, &mut index)
+}
+
+pub fn of_514(draft: &[u64], root: usize, result: &mut [u32]) -> usize
+    requires { ⌜ Asked 514 (now draft) root (now result) ⌝ }
+    ensures { λ r. ⌜ Made (now (draft .entry)) root (now (result .entry)) (now (result .exit)) r ⌝ }
+{
+    let mut numbers = [0u16; 514];
+    let mut stack = [0u32; 514];
+    let mut index = [0u16; 1030];
+    number::number(draft, root, &mut numbers, &mut stack, result, &mut index)
+}
+
+pub fn of_1026(draft: &[u64], root: usize, result: &mut [u32]) -> usize
+    requires { ⌜ Asked 1026 (now draft) root (now result) ⌝ }
+    ensures { λ r. ⌜ Made (now (draft .entry)) root (now (result .entry)) (now (result .exit)) r ⌝ }
+{
+    let mut numbers = [0u16; 1026];
+    let mut stack = [0u32; 1026];
+    let mut index = [0u16; 2054];
+    number::number(draft, root, &mut numbers, &mut stack, result, &mut index)
+}
+
+pub fn of_1539(draft: &[u64], root: usize, result: &mut [u32]) -> usize
+    requires { ⌜ Asked 1539 (now draft) root (now result) ⌝ }
+    ensures { λ r. ⌜ Made (now (draft .entry)) root (now (result .entry)) (now (result .exit)) r ⌝ }
+{
+    let mut numbers = [0u16; 1539];
+    let mut stack = [0u32; 1539];
+    let mut index = [0u16; 3080];
+    number::number(draft, root, &mut numbers, &mut stack, result, &mut index)
+}
+
+pub fn of_3591(draft: &[u64], root: usize, result: &mut [u32]) -> usize
+    requires { ⌜ Asked 3591 (now draft) root (now result) ⌝ }
+    ensures { λ r. ⌜ Made (now (draft .entry)) root (now (result .entry)) (now (result .exit)) r ⌝ }
+{
+    let mut numbers = [0u16; 3591];
+    let mut stack = [0u32; 3591];
+    let mut index = [0u16; 7184];
+    number::number(draft, root, &mut numbers, &mut stack, result, &mut index)
+}
+
+pub fn of_28679(draft: &[u64], root: usize, result: &mut [u32]) -> usize
+    requires { ⌜ Asked 28679 (now draft) root (now result) ⌝ }
+    ensures { λ r. ⌜ Made (now (draft .entry)) root (now (result .entry)) (now (result .exit)) r ⌝ }
+{
+    let mut numbers = [0u16; 28679];
+    let mut stack = [0u32; 28679];
+    let mut index = [0u16; 32768];
+    number::number(draft, root, &mut numbers, &mut stack, result, &mut index)
+}
+
+pub fn of_32768(draft: &[u64], root: usize, result: &mut [u32]) -> usize
+    requires { ⌜ Asked 32768 (now draft) root (now result) ⌝ }
+    ensures { λ r. ⌜ Made (now (draft .entry)) root (now (result .entry)) (now (result .exit)) r ⌝ }
+{
+    let mut numbers = [0u16; 32768];
+    let mut stack = [0u32; 32768];
+    let mut index = [0u16; 32768];
+    number::number(draft, root, &mut numbers, &mut stack, result, &mut index)
+}
+
+pub fn of_49152(draft: &[u64], root: usize, result: &mut [u32]) -> usize
+    requires { ⌜ Asked 49152 (now draft) root (now result) ⌝ }
+    ensures { λ r. ⌜ Made (now (draft .entry)) root (now (result .entry)) (now (result .exit)) r ⌝ }
+{
+    let mut numbers = [0u16; 49152];
+    let mut stack = [0u32; 49152];
+    let mut index = [0u16; 32768];
+    number::number(draft, root, &mut numbers, &mut stack, result, &mut index)
+}
+
+pub fn of_114688(draft: &[u64], root: usize, result: &mut [u32]) -> usize
+    requires { ⌜ Asked 114688 (now draft) root (now result) ⌝ }
+    ensures { λ r. ⌜ Made (now (draft .entry)) root (now (result .entry)) (now (result .exit)) r ⌝ }
+{
+    let mut numbers = [0u16; 114688];
+    let mut stack = [0u32; 114688];
+    let mut index = [0u16; 32768];
+    number::number(draft, root, &mut numbers, &mut stack, result, &mut index)
+}

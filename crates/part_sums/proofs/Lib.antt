@@ -1,0 +1,2 @@
+-- The laws of one part more.
+pub mod Parts

@@ -1,0 +1,2 @@
+-- What the promises about the parts of choices cite.
+pub mod Joining
