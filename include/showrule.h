@@ -5,8 +5,9 @@
  * after it, never 0 (SHOWRULE_HEADER makes one). A length counts the header; the number of words, and so every limit, leaves it out.
  *
  * A house sets two limits, and hands both to text, plain, normal and form: `written`, 1 to 256, is the most words of a written table, and
- * `until_like`, 0 to 10, the most until-like words (kinds 8 to 11) of a plain one that is rewritten; a plain table has at most 2 written + 2
- * words. A limit outside its range is 25, before any other refusal. The program keeps to 64 and 8.
+ * `until_like`, 0 to 10, the most until-like words (kinds 8 to 11) of a plain one that is rewritten; to these four a plain table has at most
+ * 2 written + 2 words. A limit outside its range is 25, before any other refusal. The program keeps to 64 and 8. Every other function but
+ * check, which is handed its limit, takes tables of up to 16,383 words.
  *
  * Every function takes any numbers and any words, and answers 0 when the call is accepted, or the number of the refusal, the first that
  * applies in the order of documents 01 and 02. The place is then the number of the faulty word for 3 to 11 and 21 (0 for 6 of a state),
@@ -20,9 +21,11 @@
  *   - A pointer to a single number (place, form_length, ..) is never null. What the number held before a call does not matter.
  *   - A slice or number that is written lies apart from every other slice and number of the same call.
  *   - A bool is 0 or 1. One that a call writes is 0 or 1 too, whatever it held before.
- *   - A call needs stack. 512 KB have been enough for the longest and the deepest rules, but not for three calls on tables of over 512
- *     words: 1 MB for showrule_dialect and showrule_after, which have some 500 and 730 KB of arrays of their own, and for showrule_move, with
- *     some 490 KB, or 2 MB for it on tables of over 4,096 words, with some 1,660 KB (rust/showrule/tests/stack.rs tries them).
+ *   - A call needs stack: 512 KB have been enough for the longest and the deepest rules, except on tables of over 512 words for
+ *       showrule_dialect   1 MB: its arrays have some 512 KB
+ *       showrule_after     1 MB: some 736 KB
+ *       showrule_move      1 MB: some 505 KB; of over 4,096 words 2 MB: some 1,681 KB
+ *     (rust/showrule/tests/stack.rs tries them).
  */
 #ifndef SHOWRULE_H
 #define SHOWRULE_H
@@ -96,7 +99,7 @@ enum { SHOWRULE_MOST_ROOM = 16384 };
 #define SHOWRULE_SCRATCH_WORDS(words, samples) ((size_t)(words) * (((size_t)(samples) + 63) / 64))
 
 /* The checks of a table: 1, 2 and 23, then 3 to 10, then 24; of a plain one (kinds 1 to 11) where plain is true, else of a written one, of
- * at most limit words. A limit over 16,383 counts for 16,383. It writes nothing but the place. */
+ * at most limit words. No count is over 16,383, so that a higher limit refuses nothing. It writes nothing but the place. */
 uint32_t showrule_check(const uint32_t *table, size_t length, bool plain, size_t limit, size_t *place);
 
 /* The class byte of each word of a plain table of at most 16,383 words, the checks of a table and 12. Accepted, the first length - 1 bytes
@@ -107,7 +110,7 @@ uint32_t showrule_classify(const uint32_t *table, size_t length, uint8_t *bytes,
 /* The written table of a rule typed as text: true, false, p1 to p32, the prefixes ! X F G, and the two-sided & | -> U W R M, always with
  * their two operands in round brackets; spaces (byte 32) may stand round these symbols, and nothing else, so that no final line end and
  * no final 0 is part of a text. Refusals, the first of them that applies:
- *   25  a limit is outside its range, until_like too, though no text has to do with it.
+ *   25  a limit is outside its range, until_like too, though it has no bearing on a text.
  *   20  over 1,024 bytes.
  *   19  no rule of the grammar; the place is the first byte, counted from 1, after which no continuation could help, or bytes + 1 where
  *       the text ends early.

@@ -32,8 +32,8 @@ bound n k = 2 ^ k * (5 * n + 3 * k + 1) + 2
 -- the first n words of a slice, which has as many, are the form of a written table, each with its header before it: the defined words, after the
 -- header that is theirs. Of the words after the header: they hold at every position of every lasso that drives the rule's letters where the written
 -- rule does; they lie in Delta-2; they are no more than the bound; they name no letter that the rule lacks, so every lasso that drives the rule's
--- letters drives theirs. And so the judge accepts the form wherever it accepts the written table: by the checks of a table, and by 21 for every
--- driven count. It is a plain table, which the class step and the dialect take too
+-- letters drives theirs. And so the judge refuses the form for no reason that it does not have for the written table, but 16, by the form's own rows:
+-- the checks of a table pass for it, and 21 for every driven count for which it passes for the rule. It is a plain table, which the class step and the dialect take too
 pub record Kept (t form : List ℕ) (n : ℕ) : Type 0 where
   pub words : take n form ≡ headed (formTable (plainTable (body t)))
   pub long : length (take n form) ≡ n

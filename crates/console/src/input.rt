@@ -1,6 +1,6 @@
 // What is left of the input.
 
-// One more piece of the input, and whether there was any: how many bytes it has beyond whole words.
+// One more piece of the input, and whether there was any; `odd` is how many bytes all pieces so far have beyond whole words.
 fn piece(odd: &mut usize) -> bool {
     let mut buffer = io::buffer();
     let n = io::read_full(0, &mut buffer);

@@ -1,2 +1,2 @@
-// What a judgement is refused for after its table.
+// What a judgement is refused for, its table's faults included.
 pub mod checks;

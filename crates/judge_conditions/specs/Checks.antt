@@ -1,4 +1,4 @@
--- The checks of the two calls after those of their table, in their order: 13 to 15, 22, 21, 16, 26, 17.
+-- The checks of the two calls, in their order: those of their table, 13 to 15, 22, 21, 16, 26, 17.
 use Prim.Native.Nat.{ℕ, _*_}
 use mathlib.Core.Bool.{false}
 use mathlib.Core.List.{List, [], _∷_, _++_}

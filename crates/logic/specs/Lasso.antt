@@ -1,4 +1,4 @@
--- Recordings: a word over valuations, finite or looped for ever (an ultimately periodic word, a lasso).
+-- Recordings: a word over valuations, looped for ever (an ultimately periodic word, a lasso).
 -- Document 01 calls a valuation a sample and a position a moment.
 use Prim.Native.Nat.{ℕ, _+_, _-_, _%_, _<_, _≤_}
 use mathlib.Core.Bool.{Bool, cond}

@@ -17,9 +17,9 @@ pub fn reply(o: Outcome, place: &mut usize) -> u32
             0
         }
         Outcome::Refused(r) => {
-            let report = refusals::report_of(r);
-            *place = report.1;
-            report.0
+            let told = refusals::report_of(r);
+            *place = told.1;
+            told.0
         }
     }
 }

@@ -1,22 +1,22 @@
 // Tests of rows that need no sweep.
 ghost use mathlib.Core.Path.{_≡_};
-ghost use mathlib.Core.Bool.{true};
-ghost use Prim.Native.Nat.{_-_};
+ghost use mathlib.Core.Bool.{true, _&&_, _||_};
+ghost use mathlib.Core.Logic.{_↔_};
 ghost use lib.ListN.{length};
-ghost use Rattle.logic.specs.Truth.{Sequence, sweep};
+ghost use Rattle.logic.specs.Truth.{Sequence};
 ghost use Rattle.row_words.specs.Row as rows;
 ghost use Rattle.row_words.specs.Writing.{RowFor};
 use row_words::row_word::filled;
 use row_words::row_word::ones;
 use row_words::row_word::shift;
 
-// Whether the goal or the keep holds at every position: then a sweep with the carry holds at every one.
+// Whether the goal or the keep holds at every position: then a sweep with the carry holds at every one (`full-row`).
 pub fn everywhere(g: &[u64], p: &[u64], positions: usize) -> bool
     requires { ⌜ RowFor positions (now g) × (length (now p) ≡ length (now g)) ⌝ }
-    ensures { λ r. ⌜ (r ≡ true → (G P : Sequence)
+    ensures { λ r. ⌜ ((G P : Sequence)
         → now (g .entry) ≡ rows.row positions G
         → now (p .entry) ≡ rows.row positions P
-        → rows.row positions (λ i. true) ≡ rows.row positions (λ i. sweep G P true i (positions - i))) ⌝ }
+        → (r ≡ true) ↔ (rows.row positions (λ i. G i || P i) ≡ rows.row positions (λ i. true))) ⌝ }
 {
     let last = g.len() - 1;
     let mut missing: u64 = 0;
@@ -29,13 +29,13 @@ pub fn everywhere(g: &[u64], p: &[u64], positions: usize) -> bool
     missing == 0
 }
 
-// Whether the goal is all that a sweep comes to: one step of it, from each position's next one, adds nothing.
+// Whether one step of a sweep, from each position's next one, adds nothing: then the goal is all that the sweep comes to (`settled-row`).
 pub fn settled(g: &[u64], p: &[u64], positions: usize, end: bool) -> bool
     requires { ⌜ RowFor positions (now g) × (length (now p) ≡ length (now g)) ⌝ }
-    ensures { λ r. ⌜ (r ≡ true → (G P : Sequence)
+    ensures { λ r. ⌜ ((G P : Sequence)
         → now (g .entry) ≡ rows.row positions G
         → now (p .entry) ≡ rows.row positions P
-        → rows.row positions G ≡ rows.row positions (λ i. sweep G P end i (positions - i))) ⌝ }
+        → (r ≡ true) ↔ (rows.row positions (λ i. G i || (P i && rows.next positions G end i)) ≡ rows.row positions G)) ⌝ }
 {
     let last = g.len() - 1;
     let mut added: u64 = 0;

@@ -1,4 +1,4 @@
-// Rules as tables of 32-bit words: a word, its kinds, the limits of a table, and the answer of a step that makes one.
+// Rules as tables of 32-bit words: the kinds of words by name, the limits of a table, and the answers of steps that make one.
 pub mod answer;
 pub mod kinds;
 pub mod settings;

@@ -1,6 +1,6 @@
 // How many bytes a rule has as text, in the notation in which rules are typed: `true`, `p1`, `!p1`, `Xp1`, `(p1 U p2)`.
 ghost use mathlib.Core.Path.{_≡_};
-ghost use Prim.Native.Nat.{_<_, _≤_, min};
+ghost use Prim.Native.Nat.{_-_, _<_, _≤_, min};
 ghost use lib.ListN.{length, getD, take};
 ghost use Rattle.table.specs.Table.{rule};
 ghost use Rattle.grammar.specs.Grammar.{decimal};
@@ -10,7 +10,9 @@ ghost use Rattle.typed.specs.Typed as typed;
 const MOST: u64 = 1000000000001;
 
 // The highest count that is exact.
-pub fn most_counted() -> u64 {
+pub fn most_counted() -> u64
+    ensures { λ r. ⌜ r ≡ typed.most - 1 ⌝ }
+{
     MOST - 1
 }
 

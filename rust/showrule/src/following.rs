@@ -7,7 +7,7 @@ use std::mem::swap;
 /// moment on exactly if the rule holds at this one. What stands past it stays. It takes up to 16,383 words, and n words become at most
 /// 3 n + 3, beside the header. It is folded, so that it may be the one word true or false. The bits of the sample above the driven ones are
 /// never looked at. Refused as 12, every word of the slice is 0; refused otherwise, it is as it was. A table of over 512 words takes some
-/// 730 KB of stack.
+/// 736 KB of stack.
 ///
 /// ```
 /// // p1 U p2 waits for p2 while p1 holds, and is kept by p2, or broken by neither

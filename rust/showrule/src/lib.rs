@@ -130,7 +130,7 @@ fn words_of(table: &[u32]) -> &[u32] {
 }
 
 /// The checks of a table, 1, 2 and 23, then 3 to 10, then 24: written, or plain (kinds 1 to 11 only), of at most `limit` words beside the
-/// header. A limit over 16,383 counts for 16,383.
+/// header. No count is over 16,383, so that a higher limit refuses nothing.
 ///
 /// ```
 /// assert!(showrule::check(&[0x0000_0002, 0x3000_0001, 0xE000_0001], false, 64).is_ok());
@@ -238,7 +238,7 @@ pub fn normal_form<'a>(source: &'a mut [u32], limits: Limits, result: &'a mut [u
 /// The table of a plain table's conversion to the dialect without W and M, the front part of `result`: a W b becomes b R (a or b), and
 /// a M b becomes b U (a and b); a table that has neither is renumbered only. What stands past it stays. It takes up to 16,383 words, and
 /// n words become at most 2 n + 2, beside the header. Refused as 12, every word of the slice is 0; refused otherwise, it is as it was. A
-/// table of over 512 words takes some 500 KB of stack.
+/// table of over 512 words takes some 512 KB of stack.
 ///
 /// ```
 /// // p1 W p2 is p2 R (p1 or p2)

@@ -4,6 +4,7 @@ use mathlib.Core.Bool.{Bool}
 use Prim.Native.Nat.{_-_}
 use Rattle.logic.specs.Truth.{sweep}
 use Rattle.row_words.specs.Row.{row}
+use Rattle.row_tests.proofs.Unswept.{full-row, settled-row}
 use borrow.Author.Needs.{needs}
 use Rattle.row_fixpoints.proofs.write_fixpoint.Statement.{statement}
 use Rattle.row_fixpoints.proofs.write_fixpoint.Tie as tie
@@ -12,14 +13,14 @@ returns : tie.Need-returns
 returns c G P eg ep =
     let test = c .before .before .before .before in
     let L = test .before .before .before .before .before .before .before .args .positions in
-    c .before .before .write-constant .ensures ∙ test .before .everywhere .ensures (test .if2 .taken) G P eg ep
+    c .before .before .write-constant .ensures ∙ full-row L G P (test .before .everywhere .ensures G P eg ep .0 (test .if2 .taken))
     ∙ ap (λ (b : Bool). row L (λ i. sweep G P b i (L - i))) (sym (test .before .before .if1 .taken) ∙ test .before .before .before .value-at .ensures G P eg ep)
 
 returns-2 : tie.Need-returns-2
 returns-2 c G P eg ep =
     let test = c .before .before .before .before in
     let L = test .before .before .before .before .before .before .before .args .positions in
-    c .before .before .write-connective .ensures G P eg ep ∙ test .before .settled .ensures (test .if3 .taken) G P eg ep
+    c .before .before .write-connective .ensures G P eg ep ∙ settled-row L G P _ (test .before .settled .ensures G P eg ep .0 (test .if3 .taken))
     ∙ ap (λ (b : Bool). row L (λ i. sweep G P b i (L - i))) (test .before .before .before .value-at .ensures G P eg ep)
 
 returns-3 : tie.Need-returns-3

@@ -9,8 +9,8 @@ use Rattle.settling.specs.Settled.{topFirst}
 use Rattle.turns.specs.Numbers.{Words, followWords}
 use Rattle.turns.proofs.Making.{stuck-makes}
 use borrow.Author.Needs.{needs}
-use Rattle.scanning.proofs.reader.follow.Statement.{statement}
-use Rattle.scanning.proofs.reader.follow.Tie as tie
+use Rattle.sign_steps.proofs.follow.Statement.{statement}
+use Rattle.sign_steps.proofs.follow.Tie as tie
 
 -- what is to be made of a sign
 abbrev makes : tie.Start → Sign → Words

@@ -9,8 +9,8 @@ use Rattle.settling.specs.Settled.{topFirst}
 use Rattle.turns.specs.Numbers.{Words, beginWords}
 use Rattle.turns.proofs.Making.{stuck-makes, push-makes, end-makes}
 use borrow.Author.Needs.{needs}
-use Rattle.scanning.proofs.reader.begin.Statement.{statement}
-use Rattle.scanning.proofs.reader.begin.Tie as tie
+use Rattle.sign_steps.proofs.begin.Statement.{statement}
+use Rattle.sign_steps.proofs.begin.Tie as tie
 
 -- what is to be made of a sign
 abbrev makes : tie.Start → Sign → Words
