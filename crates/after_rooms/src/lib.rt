@@ -27,5 +27,5 @@ pub fn of_16383(table: &[u32], sample: u32, result: &mut [u32]) -> usize
 {
     let mut draft = [0u64; 49152];
     after_draft::fill(table, sample, &mut draft);
-    number_rooms::of_49152(&draft, 3 * table.len() + 2, result)
+    long_number_rooms::of_49152(&draft, 3 * table.len() + 2, result)
 }

@@ -27,5 +27,5 @@ pub fn of_16383(table: &[u32], result: &mut [u32]) -> usize
 {
     let mut draft = [0u64; 32768];
     dialect_draft::fill(table, &mut draft);
-    number_rooms::of_32768(&draft, 2 * table.len() + 1, result)
+    long_number_rooms::of_32768(&draft, 2 * table.len() + 1, result)
 }

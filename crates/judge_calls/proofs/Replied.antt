@@ -3,7 +3,7 @@ use Prim.Native.Nat.{ℕ}
 use mathlib.Core.Path.{_≡_, subst}
 use mathlib.Core.Bool.{Bool}
 use Rattle.judging.specs.declared.answer.Judgement.{Judgement}
-use Rattle.replies.specs.Replies.{JudgeReply}
+use Rattle.judge_replies.specs.Replies.{JudgeReply}
 
 pub judge-replied : {a b : Judgement} {number moments failing place : ℕ} {holds : Bool} → a ≡ b
     → JudgeReply a number holds moments failing place → JudgeReply b number holds moments failing place

@@ -2,8 +2,8 @@
 ghost use mathlib.Core.Path.{_≡_};
 ghost use Rattle.judging.specs.Judging.{judgeOutcome, scratchAfter};
 ghost use Rattle.judging.specs.Judging.{reply as judgeReply};
-ghost use Rattle.replies.specs.Replies.{JudgeReply};
-use replies::judge_reply;
+ghost use Rattle.judge_replies.specs.Replies.{JudgeReply};
+use judge_replies::judge_reply;
 use tally::Desk;
 use tally::Tally;
 

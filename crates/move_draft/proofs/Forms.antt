@@ -36,7 +36,8 @@ use Rattle.word_states.proofs.Smallest.{bit-of, sigma-shown, pi-shown, second-s
 use Rattle.word_states.proofs.Words.{constant-at, letter-at, formula-by, kind-by, combined-proper, byte-is, state-stands}
 use Rattle.after_slots.specs.Slots.{constantAt}
 use Rattle.move_slots.specs.Slots.{constantSlots, overSlots, junctionSlots, heldSlots, stateSlots, letterSlots}
-use Rattle.temporal_slots.specs.Slots.{nextSlots, lane, innerSlot, outerSlot, fixpointSlots}
+use Rattle.next_slots.specs.Slots.{nextSlots}
+use Rattle.temporal_slots.specs.Slots.{lane, innerSlot, outerSlot, fixpointSlots}
 use Rattle.move_draft.specs.Filling.{classAt, combinedBy, moveBy, Room, Moved, Filled, Next}
 use Rattle.move_draft.proofs.Moves.{moved-proper, Junction, junction-at, Fixpoint}
 

@@ -24,7 +24,7 @@ fn step_word(
         1..=2 => move_slots::constant(draft, j, kind),
         3..=4 => move_slots::letter(draft, j, h, after_slots::reading(sample, kind, right)),
         5..=6 => move_slots::junction(draft, j, kind, left, right),
-        7 => temporal_slots::next(draft, j, h, right),
+        7 => next_slots::next(draft, j, h, right),
         8..=9 => temporal_slots::fixpoint(draft, j, h, 5, 6, left, right),
         _ => temporal_slots::fixpoint(draft, j, h, 6, 5, left, right),
     }

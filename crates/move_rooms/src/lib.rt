@@ -37,7 +37,7 @@ pub fn of_512(
 {
     let mut draft = [0u64; 3591];
     let root = move_roots::fill(words, bytes, starts, sample, state, word, class, &mut draft);
-    number_rooms::of_3591(&draft, root, result)
+    long_number_rooms::of_3591(&draft, root, result)
 }
 
 pub fn of_4096(
@@ -56,7 +56,7 @@ pub fn of_4096(
 {
     let mut draft = [0u64; 28679];
     let root = move_roots::fill(words, bytes, starts, sample, state, word, class, &mut draft);
-    number_rooms::of_28679(&draft, root, result)
+    long_number_rooms::of_28679(&draft, root, result)
 }
 
 pub fn of_16383(
@@ -75,5 +75,5 @@ pub fn of_16383(
 {
     let mut draft = [0u64; 114688];
     let root = move_roots::fill(words, bytes, starts, sample, state, word, class, &mut draft);
-    number_rooms::of_114688(&draft, root, result)
+    long_number_rooms::of_114688(&draft, root, result)
 }

@@ -1,8 +1,7 @@
 // The answers of the steps as lent numbers: document 01's refusal number, 0 when the call is accepted, its place, and what an accepted call says.
 ghost use mathlib.Core.Path.{_≡_};
 ghost use Rattle.refusals.specs.Refusals.{outcomeNumber, outcomePlace};
-ghost use Rattle.replies.specs.Replies.{TableReply, FormReply, JudgeReply};
-use judging::answer::Judgement;
+ghost use Rattle.replies.specs.Replies.{TableReply, FormReply};
 use refusals::Outcome;
 use table::answer::Answer;
 use table::answer::Form;
@@ -64,39 +63,6 @@ pub fn form_reply(f: Form, own: &mut bool, words: &mut usize, place: &mut usize)
             let report = refusals::report_of(r);
             *own = false;
             *words = 0;
-            *place = report.1;
-            report.0
-        }
-    }
-}
-
-// What a judgement says, or the refusal, in lent numbers.
-pub fn judge_reply(
-    j: Judgement,
-    holds: &mut bool,
-    moments: &mut usize,
-    failing: &mut usize,
-    place: &mut usize,
-) -> u32
-    ensures { λ r. ⌜ JudgeReply j r (now (holds .exit)) (now (moments .exit)) (now (failing .exit)) (now (place .exit)) ⌝ }
-{
-    match j {
-        Judgement::Judged {
-            holds: h,
-            moments: m,
-            failing: f,
-        } => {
-            *holds = h;
-            *moments = m;
-            *failing = f;
-            *place = 0;
-            0
-        }
-        Judgement::Refused(r) => {
-            *holds = false;
-            *moments = 0;
-            *failing = 0;
-            let report = refusals::report_of(r);
             *place = report.1;
             report.0
         }

@@ -11,7 +11,7 @@ use Rattle.row_words.specs.Row.{rowWords}
 use Rattle.judging.specs.Judging.{scratchAfter}
 use Rattle.judging.proofs.LastRow.{words-before}
 use Rattle.table.specs.Header.{body}
-use Rattle.replies.specs.Replies.{RowReply, rowFrom, rowLength}
+use Rattle.judge_replies.specs.Replies.{RowReply, rowFrom, rowLength}
 
 pub row-accepted : {o : Outcome} (table : List ℕ) {samples width : ℕ} → o ≡ Accepted → width ≡ rowWords samples
     → RowReply o (length (body table)) samples 0 ((length table - 2) * width) width 0

@@ -3,7 +3,7 @@ ghost use mathlib.Core.Path.{_≡_};
 ghost use lib.ListN.{length};
 ghost use Rattle.table.specs.Header.{body};
 ghost use Rattle.judging.specs.Judging.{rowOutcome, scratchAfter};
-ghost use Rattle.replies.specs.Replies.{RowReply};
+ghost use Rattle.judge_replies.specs.Replies.{RowReply};
 use refusals::Outcome;
 use row_words::row_word::row_words;
 

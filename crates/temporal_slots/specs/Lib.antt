@@ -1,2 +1,2 @@
--- What the slots of a word are, where it is X, U, W, R or M.
+-- What the slots of a word are, where it is U, W, R or M.
 pub mod Slots

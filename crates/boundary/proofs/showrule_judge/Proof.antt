@@ -53,7 +53,7 @@ use Rattle.judge_calls.specs.declared.Called.{Called}
 use Rattle.tally.specs.Tallies.{noneJudged}
 use Rattle.judging.specs.Judging.{judgeOutcome, reply, scratchAfter, deskOf, talliesAfter}
 use Rattle.judging.proofs.Tallies.{none-past, tallies-inside, tallies-outside}
-use Rattle.replies.specs.Replies.{JudgeReply}
+use Rattle.judge_replies.specs.Replies.{JudgeReply}
 use Rattle.judging.specs.declared.answer.Judged.{Judged}
 use Rattle.tally.proofs.Tally as T₁
 use Rattle.tally.proofs.Tally.Laws as T₁′

@@ -2,8 +2,8 @@ use mathlib.Core.Path.{sym, ap, _∙_}
 use Rattle.refusals.specs.declared.Report.{Report}
 use Rattle.judge_laws.specs.Answers.{said}
 use borrow.Author.Needs.{needs}
-use Rattle.replies.proofs.judge_reply.Statement.{statement}
-use Rattle.replies.proofs.judge_reply.Tie as tie
+use Rattle.judge_replies.proofs.judge_reply.Statement.{statement}
+use Rattle.judge_replies.proofs.judge_reply.Tie as tie
 
 returns : tie.Need-returns
 returns c =

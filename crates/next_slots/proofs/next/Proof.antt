@@ -1,7 +1,7 @@
 use borrow.Author.Needs.{needs}
 use mathlib.Core.Path.{refl}
-use Rattle.temporal_slots.proofs.next.Statement.{statement}
-use Rattle.temporal_slots.proofs.next.Tie as tie
+use Rattle.next_slots.proofs.next.Statement.{statement}
+use Rattle.next_slots.proofs.next.Tie as tie
 
 returns : tie.Need-returns
 returns c =

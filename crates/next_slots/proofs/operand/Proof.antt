@@ -1,8 +1,8 @@
 -- The three slots of the operand's combination, by class.
 use borrow.Author.Needs.{needs}
 use native.Mathlib.Omega.{arith}
-use Rattle.temporal_slots.proofs.operand.Statement.{statement}
-use Rattle.temporal_slots.proofs.operand.Tie as tie
+use Rattle.next_slots.proofs.operand.Statement.{statement}
+use Rattle.next_slots.proofs.operand.Tie as tie
 
 returns : tie.Need-returns
 returns c = search needs

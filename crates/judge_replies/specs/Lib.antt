@@ -1,0 +1,2 @@
+-- The answers of the judge and of the row call as numbers.
+pub mod Replies
