@@ -21,13 +21,14 @@ use Rattle.table.proofs.Accepted.{accepted-well-formed}
 use Rattle.table.proofs.Letters.{formula-letters}
 use Rattle.table.proofs.Shapes.{shape-unary, shape-binary, shape-constant, shape-letter, kindOf-shape}
 use Rattle.slots.specs.Slot.{pack}
-use Rattle.draft.specs.Drafted.{Drafted}
-use Rattle.draft.proofs.Drafts.{drafted-set}
+use Rattle.drafts.specs.Drafted.{Drafted}
+use Rattle.drafts.proofs.Drafts.{drafted-set}
 use Rattle.folding.specs.Folded.{foldedSlot}
 use Rattle.folding.proofs.Folds.{drafted-copy, folded-constant, folded-letter, folded-unary, folded-binary}
 use Rattle.source.specs.Source.{Earlier, WordAt}
 use Rattle.source.proofs.Words.{plain-kind}
-use Rattle.after_slots.specs.Slots.{stored, copied, leafSlots, constantAt, junctionSlots, nextSlots, fixpointSlots}
+use Rattle.sample_letters.specs.Constant.{constantAt}
+use Rattle.after_slots.specs.Slots.{stored, copied, leafSlots, junctionSlots, nextSlots, fixpointSlots}
 use Rattle.after_draft.specs.Filling.{wordOf, Room, Stepped, Filled, Next}
 
 -- ---- the kinds

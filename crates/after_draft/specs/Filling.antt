@@ -10,7 +10,7 @@ use Rattle.transforms.specs.After.{after}
 use Rattle.refusals.specs.declared.Outcome.the-variants.{Accepted}
 use Rattle.table.specs.Table.{formulas, formulaOf}
 use Rattle.table.specs.Checks.{checked}
-use Rattle.draft.specs.Drafted.{Drafted}
+use Rattle.drafts.specs.Drafted.{Drafted}
 use Rattle.source.specs.Source.{Inside}
 
 -- the formula of word j

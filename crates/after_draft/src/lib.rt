@@ -2,8 +2,8 @@
 use after_slots::junction;
 use after_slots::leaf;
 use after_slots::next;
-use after_slots::reading;
 use fixpoint_slots::fixpoint;
+use sample_letters::reading;
 ghost use lib.ListN.{length};
 ghost use Rattle.after_draft.specs.Filling.{Room, Filled, Next};
 

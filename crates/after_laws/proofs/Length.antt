@@ -13,11 +13,12 @@ use Rattle.table.specs.Table.{rule}
 use Rattle.table.specs.Checks.{checked}
 use Rattle.table.specs.Steps.{afterTable}
 use Rattle.table.proofs.Accepted.{accepted-well-formed}
-use Rattle.draft.specs.Drafted.{Drafted}
-use Rattle.draft.proofs.Growth.{drafted-length}
+use Rattle.drafts.specs.Drafted.{Drafted}
+use Rattle.drafts.proofs.Growth.{drafted-length}
 use Rattle.source.specs.Source.{WordAt}
 use Rattle.source.proofs.Words.{plain-kind, word-at}
-use Rattle.after_slots.specs.Slots.{stored, copied, leafSlots, constantAt, junctionSlots, nextSlots, fixpointSlots}
+use Rattle.sample_letters.specs.Constant.{constantAt}
+use Rattle.after_slots.specs.Slots.{stored, copied, leafSlots, junctionSlots, nextSlots, fixpointSlots}
 use Rattle.after_draft.specs.Filling.{Room, Filled, Next}
 use Rattle.after_draft.proofs.Forms.{plain-at, constant-filled, letter-filled, next-filled, junction-filled, until-at, release-at, fixpoint-filled, none-filled, next-word}
 

@@ -1,11 +1,8 @@
 -- The three slots of word j: its own, 3j, that of the inner word which the step of a fixpoint needs, and that of its step, 3j + 2. Each is folded over
 -- the slots so far.
 use Prim.Native.Nat.{ℕ, _+_, _*_}
-use mathlib.Core.Bool.{Bool·beq, cond}
 use mathlib.Core.List.{List}
 use lib.ListN.{getD, set}
-use lib.Dec.{eqb}
-use Rattle.logic.specs.Lasso.{letterIn}
 use Rattle.slots.specs.Slot.{pack}
 use Rattle.folding.specs.Folded.{foldedSlot}
 
@@ -15,10 +12,6 @@ stored d i s = set d i (foldedSlot s d)
 -- a constant or a letter, and the constant c that it becomes
 abbrev pub leafSlots : List ℕ → (j k letter c : ℕ) → List ℕ
 leafSlots d j k letter c = stored (stored d (3 * j) (pack k 0 letter)) (3 * j + 2) (pack c 0 0)
-
--- the constant that the letter n, kind 3, or its negation is in the sample v
-abbrev pub constantAt : (v k n : ℕ) → ℕ
-constantAt v k n = cond (Bool·beq (eqb k 3) (letterIn v n)) 2 1
 
 -- and, or: over the operands' steps
 abbrev pub junctionSlots : List ℕ → (j k l r : ℕ) → List ℕ

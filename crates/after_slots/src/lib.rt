@@ -1,7 +1,7 @@
 // The slots of a word and of its step by a sample, each folded as it is stored. Word j has the slots 3j, its own, 3j + 1, the inner word that the step of
 // U, W, R or M needs, and 3j + 2, its step. Those of U, W, R and M are `fixpoint_slots`.
 use slots::slot;
-ghost use Prim.Native.Nat.{_+_, _*_, _<_, _≤_};
+ghost use Prim.Native.Nat.{_+_, _*_, _<_};
 ghost use mathlib.Core.Path.{_≡_};
 ghost use lib.ListN.{length};
 ghost use Rattle.slots.specs.Slot.{pack};
@@ -23,18 +23,6 @@ pub fn leaf(draft: &mut [u64], j: usize, kind: u32, letter: usize, constant: u32
 {
     store(&mut *draft, 3 * j, kind, 0, letter);
     store(draft, 3 * j + 2, constant, 0, 0);
-}
-
-// The constant that a letter, or its negation, is in a sample.
-pub fn reading(sample: u32, kind: u32, letter: usize) -> u32
-    requires { ⌜ (1 ≤ letter) × (letter ≤ 32) ⌝ }
-    ensures { λ r. ⌜ r ≡ after.constantAt sample kind letter ⌝ }
-{
-    let on = (sample >> (letter - 1)) % 2;
-    if kind == 3 {
-        return 1 + on;
-    }
-    2 - on
 }
 
 // And, or.

@@ -15,7 +15,6 @@ ghost use Rattle.replies.specs.Replies.{TableReply, FormReply};
 ghost use Rattle.judge_replies.specs.Replies.{JudgeReply, RowReply};
 ghost use Rattle.agreement.specs.Comparing.{comparison};
 ghost use Rattle.agreement.specs.Replies.{ComparisonReply};
-use judge_calls::judge;
 use tally::Tally;
 
 #[no_mangle]
@@ -69,7 +68,7 @@ pub extern "C" fn showrule_plain(
         r (now (words .exit)) (now (place .exit)) ⌝ }
     ensures { λ r. ⌜ now (result .exit) ≡ resultOf (plainStep (house written fixpoints)) (now (table .entry)) (now (result .entry)) ⌝ }
 {
-    form_calls::plain(table, written, fixpoints, result, words, place)
+    plain_call::plain(table, written, fixpoints, result, words, place)
 }
 
 // The form of a plain table: the table itself, or the front of the result.
@@ -208,29 +207,19 @@ pub extern "C" fn showrule_judge<'a, 'd>(
         (judgeOutcome (now (table .entry)) (now (samples .entry)) start driven (now (scratch .entry)) (deskOf (now (tallies .entry)) desk))
         (now (table .entry)) (now (samples .entry)) start driven (now (scratch .entry)))) ⌝ }
 {
-    let desks = tallies.len();
-    let mut tally = Tally { judged: 0, held: 0 };
-    if desk < desks {
-        tally = tallies[desk];
-    }
-    let called = judge(
+    desk_judging::judge(
         table,
         samples,
         start,
         driven,
         scratch,
-        desks,
+        tallies,
         desk,
-        tally,
         holds,
         moments,
         failing,
         place,
-    );
-    if desk < desks {
-        tallies[desk] = called.tally;
-    }
-    called.number
+    )
 }
 
 // The row call: which part of the scratch is the rule's own row, by its first word and its length.

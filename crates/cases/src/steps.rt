@@ -33,10 +33,7 @@ fn call<'t>(c: Case, table: &'t [u32], samples: &'t [u32]) {
         ),
         7 => judge_steps::row(table, samples, c.start, c.driven, c.room),
         8 => table_steps::text(table, c.written, c.fixpoints, c.room),
-        9 => table_steps::dialect(table, c.room),
-        11 => table_steps::after(table, c.judged, c.driven, c.room),
-        12 => table_steps::states(table, c.room),
-        13 => table_steps::moves(table, c.desk, c.judged, c.driven, c.room),
+        9 | 11..=13 => table_steps::words(step, table, c.desk, c.judged, c.driven, c.room),
         _ => judge_steps::compare(table, c.room, c.second, samples, c.start, c.driven),
     }
     show::end();

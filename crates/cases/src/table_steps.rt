@@ -51,7 +51,7 @@ pub fn plain(table: &[u32], written: usize, fixpoints: usize, room: usize) {
     let mut words: usize = 9;
     let mut place: usize = 9;
     if room <= 520 {
-        let number = form_calls::plain(
+        let number = plain_call::plain(
             table,
             written,
             fixpoints,
@@ -122,49 +122,32 @@ fn whole_way(
     made::form(number, place, words, own);
 }
 
-pub fn dialect(table: &[u32], room: usize) {
-    let mut result = [0xEEEEEEEEu32; 16400];
-    let mut words: usize = 9;
-    let mut place: usize = 9;
-    if room <= 16400 {
-        let number = step_calls::dialect(table, &mut result[0..room], &mut words, &mut place);
-        made::words(number, place, words, &result);
+// The steps that make words by no limits of a house, by their numbers: a conversion, a step by a sample, the states of an automaton, or a state's move.
+fn made_by(
+    step: u32,
+    table: &[u32],
+    state: usize,
+    sample: u32,
+    driven: usize,
+    result: &mut [u32],
+    words: &mut usize,
+    place: &mut usize,
+) -> u32 {
+    match step {
+        9 => step_calls::dialect(table, result, words, place),
+        11 => step_calls::after(table, sample, driven, result, words, place),
+        12 => automaton_calls::states(table, result, words, place),
+        _ => automaton_calls::moves(table, state, sample, driven, result, words, place),
     }
 }
 
-pub fn after(table: &[u32], sample: u32, driven: usize, room: usize) {
+pub fn words(step: u32, table: &[u32], state: usize, sample: u32, driven: usize, room: usize) {
     let mut result = [0xEEEEEEEEu32; 16400];
     let mut words: usize = 9;
     let mut place: usize = 9;
     if room <= 16400 {
-        let number = step_calls::after(
-            table,
-            sample,
-            driven,
-            &mut result[0..room],
-            &mut words,
-            &mut place,
-        );
-        made::words(number, place, words, &result);
-    }
-}
-
-pub fn states(table: &[u32], room: usize) {
-    let mut result = [0xEEEEEEEEu32; 16400];
-    let mut words: usize = 9;
-    let mut place: usize = 9;
-    if room <= 16400 {
-        let number = automaton_calls::states(table, &mut result[0..room], &mut words, &mut place);
-        made::words(number, place, words, &result);
-    }
-}
-
-pub fn moves(table: &[u32], state: usize, sample: u32, driven: usize, room: usize) {
-    let mut result = [0xEEEEEEEEu32; 16400];
-    let mut words: usize = 9;
-    let mut place: usize = 9;
-    if room <= 16400 {
-        let number = automaton_calls::moves(
+        let number = made_by(
+            step,
             table,
             state,
             sample,

@@ -1,7 +1,7 @@
 // The words of a table and their uses, with an index and marks of the size that the table can need: short tables pay for no more.
-use faults::uses;
 use faults::words;
 use refusals::Outcome;
+use use_faults::use_fault;
 ghost use mathlib.Core.Path.{_≡_};
 ghost use mathlib.Core.List.{[]};
 ghost use Prim.Native.Nat.{_≤_};
@@ -16,7 +16,7 @@ fn fault_in(table: &[u32], plain: bool, index: &mut [u16], marks: &mut [bool]) -
 {
     match words::words_fault(table, plain, index, marks) {
         Outcome::Refused(r) => Outcome::Refused(r),
-        Outcome::Accepted => uses::use_fault(table, &*marks),
+        Outcome::Accepted => use_fault(table, &*marks),
     }
 }
 

@@ -7,7 +7,7 @@ ghost use lib.ListN.{length};
 ghost use Rattle.logic.specs.Formula.{const};
 ghost use Rattle.transforms.specs.NormalForm.{below, chosenIn, choices};
 ghost use Rattle.placing.specs.State.{state};
-ghost use Rattle.filling.specs.Filled.{Laid};
+ghost use Rattle.choosing.specs.Filled.{Laid};
 ghost use Rattle.part_sums.specs.Joining.{joined, Untrue, Joinable};
 ghost use Rattle.sums.specs.Summed.{Small, Summed, Grown};
 

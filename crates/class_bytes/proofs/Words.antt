@@ -16,9 +16,9 @@ use Rattle.table.specs.Checks.{checked}
 use Rattle.table.specs.Steps.{classBytes}
 use Rattle.table.proofs.Formulas.{length-formulas, formula-of-word}
 use Rattle.table.proofs.Accepted.{accepted-well-formed}
-use Rattle.operator_bytes.specs.declared.kind.PlainKind.{PlainKind}
-use Rattle.operator_bytes.specs.declared.kind.PlainKind.the-variants as kinds
-use Rattle.operator_bytes.specs.PlainKind.{operatorByte, kindByte, takesLeft, takesRight, Stands}
+use Rattle.plain_kinds.specs.declared.PlainKind.{PlainKind}
+use Rattle.plain_kinds.specs.declared.PlainKind.the-variants as kinds
+use Rattle.plain_kinds.specs.PlainKind.{operatorByte, kindByte, takesLeft, takesRight, Stands}
 use Rattle.class_bytes.specs.Words.{PlainWords, Filled}
 
 pub length-classBytes : (t : List ℕ) → length (classBytes t) ≡ length t

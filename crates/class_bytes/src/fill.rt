@@ -1,7 +1,6 @@
 // The bytes of a table of plain words, one a word, in rising order: an operand's byte is read back from the slice.
 use operator_bytes::byte;
-use operator_bytes::kind;
-use operator_bytes::kind::PlainKind;
+use plain_kinds::PlainKind;
 ghost use mathlib.Core.Path.{_≡_};
 ghost use mathlib.Core.List.{_++_};
 ghost use Prim.Native.Nat.{_-_, _≤_, _<_};
@@ -23,7 +22,7 @@ fn byte_at(table: &[u32], bytes: &[u8], j: usize) -> u8
     ensures { λ r. ⌜ r ≡ getD (classBytes (now (table .entry))) j 0 ⌝ }
 {
     let w = table[j];
-    match kind::of(word::kind(w)) {
+    match plain_kinds::of(word::kind(w)) {
         PlainKind::Atomic => 0x7F,
         PlainKind::Next => byte::next(operand(bytes, word::right(w))),
         PlainKind::Binary(o) => byte::binary(

@@ -14,7 +14,7 @@ pub fn classify(table: &[u32], bytes: &mut [u8]) -> Outcome
         Outcome::Refused(r) => Outcome::Refused(r),
         Outcome::Accepted => {
             if bytes.len() < table.len() - 1 {
-                clearing::bytes(bytes);
+                byte_clearing::bytes(bytes);
                 return Outcome::Refused(Refusal::ResultTooShort);
             }
             fill::fill(&table[1..], bytes);

@@ -6,7 +6,7 @@ ghost use Rattle.judge_conditions.specs.Checks.{recordingChecks};
 ghost use Rattle.agreement.specs.Comparing as comparing;
 use agreement::answer::Comparison;
 use differing::first_difference;
-use lent_checks::check_recording;
+use recording_checks::check_recording;
 use refusals::Outcome;
 use refusals::Refusal;
 

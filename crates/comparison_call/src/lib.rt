@@ -20,7 +20,7 @@ fn reply(c: Comparison, same: &mut bool, moment: &mut usize, place: &mut usize) 
             0
         }
         Comparison::Refused(why) => {
-            let report = refusals::report_of(why);
+            let report = reports::report_of(why);
             *place = report.1;
             report.0
         }

@@ -14,17 +14,18 @@ use Rattle.table.specs.Table.{formulas, formulasAfter, formulaOf}
 use Rattle.table.specs.Steps.{fixpoints}
 use Rattle.table.specs.StepChecks.{isFixpointWord}
 use Rattle.table.proofs.Accepted.{WellFormed, accepted-well-formed, accepted-formula}
-use Rattle.draft.specs.Drafted.{SlotIs, Drafted}
-use Rattle.draft.proofs.Drafts.{drafted-below}
+use Rattle.drafts.specs.Drafted.{SlotIs, Drafted}
+use Rattle.drafts.proofs.Drafts.{drafted-below}
 use Rattle.form_places.specs.declared.Rewriting.the-variants.{Steady, Recurring, Opening}
-use Rattle.conjuncts.specs.declared.Fixpoint.{Fixpoint}
-use Rattle.conjuncts.specs.declared.Fixpoint.the-variants.{Least, Greatest}
+use Rattle.fixpoint_kinds.specs.declared.Fixpoint.{Fixpoint}
+use Rattle.fixpoint_kinds.specs.declared.Fixpoint.the-variants.{Least, Greatest}
 use Rattle.form_places.specs.Places.{place}
 use Rattle.rewriting.specs.Slots.{wordBy}
 use Rattle.logic.specs.Bit.{bit}
 use Rattle.fixpoints.specs.Positions.{bitOf}
 use Rattle.conjuncts.specs.Filled.{Filled}
-use Rattle.conjuncts.specs.Conjunct.{picks, membersOf, conjunctOf, conjoined, formSlot, innerSlot, outerSlot, Conjoinable, Conjoined, Joinable, Joined}
+use Rattle.fixpoint_kinds.specs.Kinds.{picks, formSlot, innerSlot}
+use Rattle.conjuncts.specs.Conjunct.{membersOf, conjunctOf, conjoined, outerSlot, Conjoinable, Conjoined, Joinable, Joined}
 use Rattle.form_places.proofs.Places.{place-fits}
 use Rattle.normal_laws.proofs.Chosen.{keep-append}
 use Rattle.fixpoints.proofs.UntilLike.{chosen-append, fixpoints-step, bits-before}

@@ -7,8 +7,8 @@ use mathlib.Core.Bool.{Bool}
 use mathlib.Core.List.{List}
 use lib.ListN.{length, getD}
 use Rattle.logic.specs.Bit.{bit}
-use Rattle.draft.specs.Drafted.{SlotIs}
-use Rattle.draft.proofs.Drafts.{drafted-below, slot-below}
+use Rattle.drafts.specs.Drafted.{SlotIs}
+use Rattle.drafts.proofs.Drafts.{drafted-below, slot-below}
 use Rattle.fixpoints.specs.Positions.{bitOf, Kept}
 use Rattle.form_places.specs.declared.Rewriting.the-variants.{Opening}
 use Rattle.form_places.specs.Places.{place}

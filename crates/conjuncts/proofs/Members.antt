@@ -13,9 +13,10 @@ use Rattle.table.proofs.Accepted.{WellFormed}
 use Rattle.table.specs.Node.{kind}
 use Rattle.fixpoints.proofs.UntilLike.{word-fixpoint, fixpoint-word}
 use Rattle.rewriting.specs.Slots.{wordBy}
-use Rattle.conjuncts.specs.declared.Fixpoint.{Fixpoint}
-use Rattle.conjuncts.specs.declared.Fixpoint.the-variants.{Least, Greatest}
-use Rattle.conjuncts.specs.Conjunct.{picks, membersOf}
+use Rattle.fixpoint_kinds.specs.declared.Fixpoint.{Fixpoint}
+use Rattle.fixpoint_kinds.specs.declared.Fixpoint.the-variants.{Least, Greatest}
+use Rattle.fixpoint_kinds.specs.Kinds.{picks}
+use Rattle.conjuncts.specs.Conjunct.{membersOf}
 
 pub members-picked : (x : Fixpoint) (t : List ℕ) (c : ℕ) → membersOf x t c ≡ keep (picks x) (chosen (fixpoints t) c)
 unfolding leastOf greatestOf

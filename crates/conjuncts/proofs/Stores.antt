@@ -9,8 +9,9 @@ use Rattle.logic.specs.Formula.{conj}
 use Rattle.table.specs.Node.{binaryKind}
 use Rattle.slots.specs.Slot.{pack}
 use Rattle.word_slots.proofs.Stores.{two, two-others, two-0, two-1}
-use Rattle.conjuncts.specs.declared.Fixpoint.{Fixpoint}
-use Rattle.conjuncts.specs.Conjunct.{formSlot, innerSlot, outerSlot, Conjoined}
+use Rattle.fixpoint_kinds.specs.declared.Fixpoint.{Fixpoint}
+use Rattle.fixpoint_kinds.specs.Kinds.{formSlot, innerSlot}
+use Rattle.conjuncts.specs.Conjunct.{outerSlot, Conjoined}
 
 pub three-conjoined : (x : Fixpoint) (j : ℕ) (d : List ℕ) (next : ℕ) {i o a : ℕ} → next + 2 < length d → i ≡ innerSlot x (formSlot x j) → o ≡ outerSlot x next
     → a ≡ pack (binaryKind conj) (next - 1) (next + 1) → Conjoined x j d next (set (two d next i o) (next + 2) a) (next + 3)

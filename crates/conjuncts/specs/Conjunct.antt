@@ -1,29 +1,26 @@
 -- The conjuncts of a part: which words have one, what it is, and the slots that it is made of.
 use Prim.Native.Nat.{ℕ, _+_, _*_, _-_, _^_, _<_, _≤_}
 use mathlib.Core.Path.{_≡_}
-use mathlib.Core.Bool.{Bool, true}
+use mathlib.Core.Bool.{true}
 use mathlib.Core.List.{List, map, foldl}
 use lib.ListN.{length, getD}
 use Rattle.logic.specs.Formula.{Formula, bin, conj, F, G}
-use Rattle.transforms.specs.NormalForm.{isLeast, isGreatest, leastOf, greatestOf}
+use Rattle.transforms.specs.NormalForm.{leastOf, greatestOf}
 use Rattle.table.specs.Steps.{fixpoints}
-use Rattle.draft.specs.Drafted.{Drafted}
+use Rattle.drafts.specs.Drafted.{Drafted}
 use Rattle.form_places.specs.declared.Rewriting.the-variants.{Steady, Recurring, Opening}
-use Rattle.conjuncts.specs.declared.Fixpoint.{Fixpoint}
-use Rattle.conjuncts.specs.declared.Fixpoint.the-variants.{Least, Greatest}
+use Rattle.fixpoint_kinds.specs.declared.Fixpoint.{Fixpoint}
+use Rattle.fixpoint_kinds.specs.declared.Fixpoint.the-variants.{Least, Greatest}
 use Rattle.refusals.specs.declared.Outcome.the-variants.{Accepted}
 use Rattle.table.specs.Checks.{checked}
 use Rattle.table.specs.Node.{binaryKind}
 use Rattle.slots.specs.Slot.{pack}
 use Rattle.fixpoints.specs.Positions.{Kept}
 use Rattle.form_places.specs.Places.{place, finallySlot, globallySlot}
+use Rattle.fixpoint_kinds.specs.Kinds.{formSlot, innerSlot}
 use Rattle.conjuncts.specs.Filled.{rewritten, Filled}
 
-abbrev pub picks : Fixpoint → Formula → Bool
-picks Least φ = isLeast φ
-picks Greatest φ = isGreatest φ
-
--- the chosen ones among them
+-- the chosen ones of a kind
 abbrev pub membersOf : Fixpoint → List ℕ → ℕ → List Formula
 membersOf Least t c = leastOf (fixpoints t) c
 membersOf Greatest t c = greatestOf (fixpoints t) c
@@ -41,15 +38,7 @@ conjoined x t c ψs φ = foldl (bin conj) φ (map (conjunctOf x t c) ψs)
 abbrev pub conjuncts : Fixpoint → List ℕ → ℕ → ℕ
 conjuncts x t c = length (membersOf x t c)
 
--- what the conjunct of word j is made of: its form, and the inner and the outer operator over it
-abbrev pub formSlot : Fixpoint → ℕ → ℕ
-formSlot Least j = place Recurring j
-formSlot Greatest j = place Steady j
-
-abbrev pub innerSlot : Fixpoint → ℕ → ℕ
-innerSlot Least i = finallySlot i
-innerSlot Greatest i = globallySlot i
-
+-- the outer operator of a conjunct, over the inner one
 abbrev pub outerSlot : Fixpoint → ℕ → ℕ
 outerSlot Least i = globallySlot i
 outerSlot Greatest i = finallySlot i

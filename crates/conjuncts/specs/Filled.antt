@@ -6,7 +6,7 @@ use Rattle.transforms.specs.NormalForm.{member, leastOf, greatestOf}
 use Rattle.table.specs.Table.{formulas, formulaOf}
 use Rattle.table.specs.Steps.{fixpoints}
 use Rattle.slots.specs.Slot.{pack}
-use Rattle.draft.specs.Drafted.{SlotIs, Drafted}
+use Rattle.drafts.specs.Drafted.{SlotIs, Drafted}
 use Rattle.form_places.specs.declared.Rewriting.{Rewriting}
 use Rattle.form_places.specs.Places.{place}
 use Rattle.rewriting.specs.Slots.{by}

@@ -1,46 +1,10 @@
 // The conjuncts of a part: GF of the recurring form of each chosen least fixpoint, and FG of the steady form of each chosen greatest one.
-use form_places::Rewriting;
+use fixpoint_kinds::Fixpoint;
 use slots::slot;
 use table::kinds;
 ghost use Prim.Native.Nat.{_<_};
 ghost use mathlib.Core.Path.{_≡_};
-ghost use Rattle.logic.specs.Formula.{Formula};
-ghost use Rattle.rewriting.specs.Slots.{wordBy};
-ghost use Rattle.conjuncts.specs.Conjunct.{picks, formSlot, innerSlot, outerSlot, Conjoinable, Conjoined, Joinable, Joined};
-
-pub enum Fixpoint {
-    Least,
-    Greatest,
-}
-
-// U and M are least fixpoints, W and R greatest ones.
-pub fn is(fixpoint: Fixpoint, w: u32) -> bool
-    ensures { λ r. ⌜ ((a b : Formula) → r ≡ picks fixpoint (wordBy w a b)) ⌝ }
-{
-    let kind = word::kind(w);
-    match fixpoint {
-        Fixpoint::Least => match kind {
-            kinds::UNTIL => true,
-            kinds::STRONG => true,
-            _ => false,
-        },
-        Fixpoint::Greatest => match kind {
-            kinds::WEAK..=kinds::RELEASE => true,
-            _ => false,
-        },
-    }
-}
-
-// The inner operator of the conjunct of word j, over the word's form.
-pub fn inner(fixpoint: Fixpoint, j: usize) -> u64
-    requires { ⌜ formSlot fixpoint j < 1048576 ⌝ }
-    ensures { λ r. ⌜ r ≡ innerSlot fixpoint (formSlot fixpoint j) ⌝ }
-{
-    match fixpoint {
-        Fixpoint::Least => form_places::finally(form_places::place(Rewriting::Recurring, j)),
-        Fixpoint::Greatest => form_places::globally(form_places::place(Rewriting::Steady, j)),
-    }
-}
+ghost use Rattle.conjuncts.specs.Conjunct.{outerSlot, Conjoinable, Conjoined, Joinable, Joined};
 
 // The outer operator, over the inner one at slot i.
 pub fn outer(fixpoint: Fixpoint, i: usize) -> u64
@@ -58,7 +22,7 @@ pub fn conjoin(fixpoint: Fixpoint, j: usize, draft: &mut [u64], next: usize) -> 
     requires { ⌜ Conjoinable fixpoint j (now draft) next ⌝ }
     ensures { λ r. ⌜ Conjoined fixpoint j (now (draft .entry)) next (now (draft .exit)) r ⌝ }
 {
-    draft[next] = inner(fixpoint, j);
+    draft[next] = fixpoint_kinds::inner(fixpoint, j);
     draft[next + 1] = outer(fixpoint, next);
     draft[next + 2] = slot::pack(kinds::AND, next - 1, next + 1);
     next + 3
@@ -79,7 +43,7 @@ pub fn conjuncts(
     let mut next = first;
     let mut i = 0;
     while i < table.len() {
-        if is(fixpoint, table[i]) {
+        if fixpoint_kinds::is(fixpoint, table[i]) {
             if choice_bits::chosen(positions, choice, i + 1) {
                 next = conjoin(fixpoint, i + 1, draft, next);
             }

@@ -12,8 +12,8 @@ use Rattle.table.specs.Table.{rule}
 use Rattle.table.specs.Checks.{checked}
 use Rattle.table.specs.Steps.{dialectTable}
 use Rattle.table.proofs.Accepted.{accepted-well-formed}
-use Rattle.draft.specs.Drafted.{Drafted}
-use Rattle.draft.proofs.Growth.{drafted-length}
+use Rattle.drafts.specs.Drafted.{Drafted}
+use Rattle.drafts.proofs.Growth.{drafted-length}
 use Rattle.source.specs.Source.{WordAt}
 use Rattle.dialect_slots.specs.Filling.{slotOf, Room, Filled, Next}
 use Rattle.source.proofs.Words.{plain-kind, word-at}

@@ -14,8 +14,8 @@ use Rattle.table.specs.Node.{shape, binary, binaryKind, rightField, kindOf}
 use Rattle.table.specs.Checks.{isOperand}
 use Rattle.table.proofs.Shapes.{shape-unary, shape-binary, kindOf-shape}
 use Rattle.slots.specs.Slot.{pack}
-use Rattle.draft.specs.Drafted.{SlotIs, Drafted}
-use Rattle.draft.proofs.Drafts.{slot-below, drafted-set, slot-set}
+use Rattle.drafts.specs.Drafted.{SlotIs, Drafted}
+use Rattle.drafts.proofs.Drafts.{slot-below, drafted-set, slot-set}
 use Rattle.source.specs.Source.{Earlier, WordAt}
 use Rattle.dialect_slots.specs.Filling.{formOf, slotOf, Room, Filled, Next}
 use Rattle.source.proofs.Words.{plain-kind}

@@ -10,7 +10,7 @@ use Rattle.table.specs.Node.{Shape, none, constant, letter, unary, binary, righ
 use Rattle.table.specs.Table.{formulaBy}
 use Rattle.table.specs.Checks.{isBlank}
 use Rattle.slots.specs.Slot.{pack}
-use Rattle.draft.specs.Drafted.{SlotIs, Drafted}
+use Rattle.drafts.specs.Drafted.{SlotIs, Drafted}
 
 -- a constant or a letter, at a slot with its kind and its field
 pub leaf-by : (s : Shape) (n : ℕ) (a b : Formula) {d : List ℕ} {i : ℕ} → 0 < kindOf s → kindOf s < 5 → n < 16384

@@ -9,7 +9,7 @@ use Rattle.transforms.specs.Dialect.{dialect}
 use Rattle.refusals.specs.declared.Outcome.the-variants.{Accepted}
 use Rattle.table.specs.Table.{formulas, formulaOf}
 use Rattle.table.specs.Checks.{checked}
-use Rattle.draft.specs.Drafted.{Drafted}
+use Rattle.drafts.specs.Drafted.{Drafted}
 use Rattle.source.specs.Source.{Inside}
 
 -- the conversion of word j

@@ -4,7 +4,7 @@ ghost use mathlib.Core.Bool.{false};
 ghost use Prim.Native.Nat.{ℕ, _≤_};
 ghost use Rattle.refusals.specs.declared.Outcome.the-variants.{Accepted};
 ghost use Rattle.table.specs.Table.{formulas, rule};
-ghost use Rattle.row_filling.specs.Filling.{Fillable, lassoOf, rowsThen};
+ghost use Rattle.table_rows.specs.Rows.{Fillable, lassoOf, rowsThen};
 ghost use Rattle.judging.specs.Judging.{judgeOutcome, replyBy, reply, scratchAfter};
 ghost use Rattle.tally.specs.Tallies.{isFull};
 use judge_checks::checks::check_judge;

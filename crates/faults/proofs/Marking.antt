@@ -1,23 +1,23 @@
--- Marks of operands: none, those of one more word, and the check of one mark after another.
-use Prim.Native.Nat.{ℕ, suc, _-_, _/_, _≤_, _<_}
+-- Marks of operands: none, and those of one more word.
+use Prim.Native.Nat.{ℕ, suc, _/_, _≤_, _<_}
 use mathlib.Core.Path.{_≡_, refl, sym, _∙_}
-use mathlib.Core.Bool.{Bool, true, false, not, _||_, or-false, or-true, or-assoc}
+use mathlib.Core.Bool.{Bool, true, false, _||_, or-false, or-true, or-assoc}
 use mathlib.Core.List.{List, [], _∷_, _++_}
 use native.Mathlib.Omega.{arith}
 use lib.ListN.{length, getD, set, replicate, length-set, length-replicate, getD-replicate}
 use lib.Seq.{getD-set-same, getD-set-other}
 use lib.Dec.{eqb}
 use borrow.Author.Tests.{eqb-true, eqb-false}
-use Rattle.refusals.specs.declared.Refusal.the-variants.{Unused}
-use Rattle.refusals.specs.Refusals.{first, decideBy}
 use Rattle.table.specs.Node.{Shape, none, constant, letter, unary, binary, kind, left, right, shape}
-use Rattle.table.specs.Checks.{uses, used, useChecks}
+use Rattle.table.specs.Checks.{uses, used}
 use Rattle.field_checks.specs.declared.layout.Layout.{Layout}
 use Rattle.field_checks.specs.declared.layout.Layout.the-variants.{Constant, Letter, Unary, Binary}
 use Rattle.field_checks.specs.Layout.{layoutOf}
 use Rattle.lookup.proofs.Laws.{indexed-none}
-use Rattle.fields.specs.Marks.{markedBy, markedWith}
-use Rattle.faults.specs.Marks.{Marked, Room, Kept}
+use Rattle.field_faults.specs.Marks.{markedBy}
+use Rattle.fields.specs.Marks.{markedWith}
+use Rattle.use_faults.specs.Marks.{Marked}
+use Rattle.faults.specs.Marks.{Room, Kept}
 
 used-snoc : (n : ℕ) (t : List ℕ) (w : ℕ) → used n (t ++ (w ∷ [])) ≡ (used n t || uses n w)
 unfolding used
@@ -88,12 +88,3 @@ room-kept r e f = record { words = rw e (r .words); numbers = rw f (r .numbers) 
 
 pub kept-none : (n m : ℕ) → 2 ≤ n → n ≤ 32768 → Kept [] (replicate n 0) (replicate m false)
 kept-none n m p q = record { indexed = indexed-none n p q; marked = marked-none m }
-
--- the use of word n, and then of the ones after it
-pub use-step : (t : List ℕ) (n k : ℕ) → n < k → first (useChecks t n (k - n)) ≡ decideBy (not (used n t)) (Unused n) (first (useChecks t (suc n) (k - suc n)))
-unfolding useChecks
-use-step t n k l = let e : k - n ≡ suc (k - suc n) = omega arith in rw e
-
-pub use-none : (t : List ℕ) (n k : ℕ) → k ≤ n → useChecks t n (k - n) ≡ []
-unfolding useChecks
-use-none t n k l = let e : k - n ≡ 0 = omega arith in rw e

@@ -1,18 +1,15 @@
--- What the marks of operands say, and what reading words tells.
+-- The index and the marks of operands, and what reading words tells.
 use Prim.Native.Nat.{ℕ, _+_, _≤_, _<_}
 use mathlib.Core.Path.{_≡_}
-use mathlib.Core.Bool.{Bool, false}
+use mathlib.Core.Bool.{Bool}
 use mathlib.Core.List.{List, []}
 use lib.ListN.{length, getD, take}
 use Rattle.refusals.specs.declared.Outcome.{Outcome}
 use Rattle.refusals.specs.declared.Outcome.the-variants.{Accepted}
 use Rattle.refusals.specs.Refusals.{first}
-use Rattle.table.specs.Checks.{used, wordChecks, wordsChecks}
+use Rattle.table.specs.Checks.{wordChecks, wordsChecks}
 use Rattle.lookup.specs.Index.{halfOf, Indexed}
-
--- a number is marked where a word of t has it for an operand
-pub record Marked (t : List ℕ) (marks : List Bool) : Type 0 where
-  pub at : (n : ℕ) → n < length marks → getD marks n false ≡ used n t
+use Rattle.use_faults.specs.Marks.{Marked}
 
 -- there is room for the words of t
 pub record Room (t index : List ℕ) (marks : List Bool) : Type 0 where

@@ -1,3 +1,2 @@
-// The checks of a table's words in rising order, and of their uses.
-pub mod uses;
+// The checks of a table's words in rising order.
 pub mod words;

@@ -24,7 +24,7 @@ fn word_fault(
             if 0 < lookup::find(words, &*index, w) {
                 return Outcome::Refused(Refusal::Repeated(i + 1));
             }
-            lookup::add(index, w);
+            indexing::add(index, w);
             Outcome::Accepted
         }
     }

@@ -13,7 +13,7 @@ use Rattle.table.specs.Node.{Shape, none, constant, letter, unary, binary, kind
 use Rattle.table.specs.Checks.{occurs, wordChecks}
 use Rattle.field_checks.specs.declared.layout.Layout.the-variants.{Constant}
 use Rattle.field_checks.specs.Layout.{layoutOf}
-use Rattle.fields.specs.Layout.{fieldChecks}
+use Rattle.field_faults.specs.Layout.{fieldChecks}
 
 decide-or : (a b : Bool) (r : Refusal) (o : Outcome) → decideBy (a || b) r o ≡ decideBy a r (decideBy b r o)
 decide-or true b r o = refl

@@ -1,3 +1,2 @@
--- What the fields of a word are checked for by their layout, and the marks of its operands.
-pub mod Layout
+-- The marks of a word's operands.
 pub mod Marks

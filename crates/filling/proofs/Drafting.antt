@@ -9,7 +9,7 @@ use Rattle.table.specs.Node.{Shape, none, constant, letter, unary, binary, left
 use Rattle.table.specs.Table.{formulaBy}
 use Rattle.table.specs.Checks.{isOperand, isProposition}
 use Rattle.slots.specs.Slot.{pack}
-use Rattle.draft.specs.Drafted.{SlotIs, Drafted}
+use Rattle.drafts.specs.Drafted.{SlotIs, Drafted}
 use Rattle.form_places.specs.declared.Rewriting.{Rewriting}
 use Rattle.form_places.specs.declared.Rewriting.the-variants.{Steady, Recurring, Opening}
 use Rattle.form_places.specs.Places.{place, globallySlot}

@@ -11,16 +11,17 @@ use Rattle.transforms.specs.NormalForm.{member, leastOf, part}
 use Rattle.table.specs.Table.{rule}
 use Rattle.table.specs.Steps.{fixpoints}
 use Rattle.table.proofs.Accepted.{accepted-well-formed}
-use Rattle.draft.specs.Drafted.{Drafted}
+use Rattle.drafts.specs.Drafted.{Drafted}
 use Rattle.form_places.specs.declared.Rewriting.the-variants.{Opening}
 use Rattle.form_places.specs.Places.{place}
 use Rattle.normal_laws.proofs.Chosen.{members-few}
-use Rattle.conjuncts.specs.declared.Fixpoint.the-variants.{Least, Greatest}
+use Rattle.fixpoint_kinds.specs.declared.Fixpoint.the-variants.{Least, Greatest}
 use Rattle.conjuncts.specs.Filled.{formOf, Filled}
 use Rattle.conjuncts.specs.Conjunct.{membersOf, conjunctOf, Joinable, Joined}
 use Rattle.conjuncts.proofs.Forms.{filled-later}
-use Rattle.filling.specs.Filled.{Laid, Chosen, Fillable}
-use Rattle.filling.proofs.WordByWord.{laid-later, chosen-filled}
+use Rattle.choosing.specs.Filled.{Laid, Chosen, Fillable}
+use Rattle.choosing.proofs.Choosing.{laid-later}
+use Rattle.filling.proofs.WordByWord.{chosen-filled}
 
 module _ {t positions : List ℕ} {c : ℕ} {d : List ℕ} (q : Fillable t positions d) {d₁ : List ℕ} (l : length d₁ ≡ length d) (chosen : Chosen t c d₁ (length t)) where
   filled : Filled t c d₁ (length t)

@@ -1,13 +1,13 @@
 // A choice's draft: the three forms of each word, and the rule's part after them.
-use conjuncts::Fixpoint;
+use fixpoint_kinds::Fixpoint;
 use slots::slot;
 use table::kinds;
 ghost use lib.ListN.{length};
 ghost use Rattle.transforms.specs.NormalForm as normal;
 ghost use Rattle.table.specs.Table.{rule};
 ghost use Rattle.table.specs.Steps as steps;
-ghost use Rattle.draft.specs.Drafted.{Drafted};
-ghost use Rattle.filling.specs.Filled.{Roomy, Laid, Chosen, Fillable};
+ghost use Rattle.drafts.specs.Drafted.{Drafted};
+ghost use Rattle.choosing.specs.Filled.{Roomy, Laid, Fillable};
 
 // The slots of the two constants and of all words, none of them chosen.
 pub fn fill_words(table: &[u32], draft: &mut [u64])
@@ -23,28 +23,13 @@ pub fn fill_words(table: &[u32], draft: &mut [u64])
     }
 }
 
-// The slots that ask whether their word is chosen, by the choice: those of words that are not until-like do not.
-pub fn choose_words(table: &[u32], positions: &[u8], choice: u32, draft: &mut [u64])
-    requires { ⌜ Fillable (now table) (now positions) (now draft) ⌝ }
-    ensures { λ r. ⌜ Chosen (now (table .entry)) choice (now (draft .exit)) (length (now (table .entry))) ⌝ }
-{
-    let mut i = 0;
-    while i < table.len() {
-        if fixpoints::is_fixpoint(table[i]) {
-            let chosen = choice_bits::chosen(positions, choice, i + 1);
-            word_slots::choose_word(table[i], i + 1, chosen, draft);
-        }
-        i += 1;
-    }
-}
-
 // Fills the draft of a choice, and hands back the slot of its part. The words stay laid out, for the next choice.
 pub fn fill(table: &[u32], positions: &[u8], choice: u32, draft: &mut [u64]) -> usize
     requires { ⌜ Fillable (now table) (now positions) (now draft) ⌝ }
     ensures { λ r. ⌜ Drafted (now (draft .exit)) (normal.part (steps.fixpoints (now (table .entry))) (rule (now (table .entry))) choice) r ⌝ }
     ensures { λ r. ⌜ Laid (now (table .entry)) (now (draft .exit)) (length (now (table .entry))) ⌝ }
 {
-    choose_words(table, positions, choice, draft);
+    choosing::choose_words(table, positions, choice, draft);
     let opened = 5 * table.len() + 5;
     let recurring = conjuncts::conjuncts(Fixpoint::Least, table, positions, choice, draft, opened);
     let steady = conjuncts::conjuncts(

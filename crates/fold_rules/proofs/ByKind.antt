@@ -8,7 +8,7 @@ use Rattle.transforms.specs.Folding as folding
 use Rattle.transforms.specs.Folding.{onLeft, onRight, orElse}
 use Rattle.table.specs.Node.{Shape, none, constant, letter, unary, binary, shape, binaryKind, kindOf}
 use Rattle.table.proofs.Shapes.{shape-unary, shape-binary, kindOf-shape}
-use Rattle.slots.proofs.Arity.{Known, known-kind}
+use Rattle.table.proofs.Shapes.{Known, known-kind}
 use Rattle.fold_rules.specs.declared.Fold.{Fold}
 use Rattle.fold_rules.specs.declared.Fold.the-variants.{Left, Right, Stands}
 use Rattle.fold_rules.specs.Rules.{leftRule, rightRule, constantly, answer}

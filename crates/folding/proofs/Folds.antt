@@ -13,8 +13,8 @@ use Rattle.table.specs.Node.{Shape, none, constant, letter, unary, binary, shap
 use Rattle.table.proofs.Shapes.{shape-unary, shape-binary, shape-constant, shape-letter}
 use Rattle.slots.specs.Slot as slot
 use Rattle.slots.proofs.Fields.{kind-pack, left-pack, right-pack}
-use Rattle.draft.specs.Drafted.{Drafted}
-use Rattle.draft.proofs.Drafts.{drafted-set, slot-set}
+use Rattle.drafts.specs.Drafted.{Drafted}
+use Rattle.drafts.proofs.Drafts.{drafted-set, slot-set}
 use Rattle.fold_rules.specs.Rules.{leftRule, rightRule, constantly}
 use Rattle.folding.specs.Folded.{foldedOver, foldedSlot, Folded}
 use Rattle.folding.proofs.Roots.{slot-constantly}

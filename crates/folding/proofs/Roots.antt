@@ -11,7 +11,7 @@ use Rattle.table.specs.Node.{Shape, constant, letter, unary, binary, shape, una
 use Rattle.table.proofs.Shapes.{shape-unary, shape-binary, shape-constant, shape-letter}
 use Rattle.slots.specs.Slot.{kind}
 use Rattle.slots.proofs.Fields.{kind-pack}
-use Rattle.draft.specs.Drafted.{Drafted}
+use Rattle.drafts.specs.Drafted.{Drafted}
 use Rattle.fold_rules.specs.Rules.{constantly}
 
 -- the shape of a formula's operator

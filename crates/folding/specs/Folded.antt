@@ -6,7 +6,7 @@ use Rattle.logic.specs.Formula.{Formula}
 use Rattle.transforms.specs.Folding.{pick, fold}
 use Rattle.table.specs.Node.{shape}
 use Rattle.slots.specs.Slot.{kind, left, right}
-use Rattle.draft.specs.Drafted.{Drafted}
+use Rattle.drafts.specs.Drafted.{Drafted}
 use Rattle.fold_rules.specs.Rules.{ruleOf}
 
 -- the slot of a word, over the slots a and b of its folded operands

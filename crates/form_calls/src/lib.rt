@@ -1,32 +1,13 @@
-// The plain form, the normal form and the whole way in lent numbers: each function answers document 01's refusal number, 0 when the call
-// is accepted, and writes the length and the place to lent numbers; of a form also whether its source is the form.
+// The normal form and the whole way in lent numbers: each function answers document 01's refusal number, 0 when the call is accepted, and
+// writes the length, the place and whether its source is the form to lent numbers.
 ghost use mathlib.Core.Path.{_≡_};
 ghost use lib.ListN.{length};
 ghost use Rattle.table.specs.Limits.{house};
-ghost use Rattle.table.specs.Frame.{plainStep, normalStep, answerOf, resultOf, formOf};
+ghost use Rattle.table.specs.Frame.{plainStep, normalStep, resultOf, formOf};
 ghost use Rattle.claims.specs.Whole.{wholeForm, wholeResult};
-ghost use Rattle.replies.specs.Replies.{TableReply, FormReply};
+ghost use Rattle.replies.specs.Replies.{FormReply};
 use replies::form_reply;
-use replies::table_reply;
 use table::settings::Limits;
-
-// The plain form of a written table, at the front of the result.
-pub fn plain(
-    table: &[u32],
-    written: usize,
-    fixpoints: usize,
-    result: &mut [u32],
-    words: &mut usize,
-    place: &mut usize,
-) -> u32
-    ensures { λ r. ⌜ TableReply
-        (answerOf (plainStep (house written fixpoints)) (now (table .entry)) (length (now (result .entry))))
-        r (now (words .exit)) (now (place .exit)) ⌝ }
-    ensures { λ r. ⌜ now (result .exit) ≡ resultOf (plainStep (house written fixpoints)) (now (table .entry)) (now (result .entry)) ⌝ }
-{
-    let limits = Limits { written, fixpoints };
-    table_reply(nnf::plain_form(limits, table, result), words, place)
-}
 
 // The form of a plain table: the table itself, or the front of the result.
 pub fn normal(

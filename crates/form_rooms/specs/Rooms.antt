@@ -10,7 +10,7 @@ use Rattle.table.specs.Checks.{checked}
 use Rattle.table.specs.Numbering.{room}
 use Rattle.table.specs.Steps.{fixpoints}
 use Rattle.fixpoints.specs.Positions.{Kept}
-use Rattle.filling.specs.Filled.{slotsFor, draftSize}
+use Rattle.choosing.specs.Filled.{slotsFor, draftSize}
 
 -- the sizes of the local arrays: a position for each word of a plain table, and the slots of a short draft, of a middling one and of any
 abbrev pub positionsLength : ℕ

@@ -15,7 +15,7 @@ use Rattle.table.specs.Steps.{fixpoints}
 use Rattle.table.specs.Numbering.{put, constantWord, build}
 use Rattle.numbering.proofs.Building.{build-const}
 use Rattle.placing.specs.State.{State, written, Numbered, Placing, Putting}
-use Rattle.filling.specs.Filled.{Laid}
+use Rattle.choosing.specs.Filled.{Laid}
 use Rattle.parts.specs.Parts.{foldedPart, Ready}
 use Rattle.true_parts.proofs.Looks.{ready-again}
 use Rattle.sums.specs.declared.Sum.{Sum}

@@ -6,7 +6,7 @@ use lib.ListN.{length}
 use Rattle.table.specs.Steps.{fixpoints}
 use Rattle.placing.specs.State.{State, Numbered}
 use Rattle.fixpoints.specs.Positions.{Kept}
-use Rattle.filling.specs.Filled.{Roomy}
+use Rattle.choosing.specs.Filled.{Roomy}
 
 pub record Formable (t positions : List ℕ) (bits : ℕ) (d folded numbers stack : List ℕ) (s : State) : Type 0 where
   pub room : Roomy t d

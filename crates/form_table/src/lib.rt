@@ -45,5 +45,5 @@ pub fn form(
         out,
         index,
     );
-    sums::close(sum, out, index)
+    closed_sums::close(sum, out, index)
 }

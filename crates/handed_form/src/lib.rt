@@ -23,7 +23,7 @@ pub fn normalise<'a>(
 {
     match form(limits, source, result) {
         Form::Refused(why) => {
-            let report = refusals::report_of(why);
+            let report = reports::report_of(why);
             *number = report.0;
             *place = report.1;
             &mut result[0..0]

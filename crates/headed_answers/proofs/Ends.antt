@@ -18,7 +18,7 @@ use Rattle.table.specs.Frame.{Step}
 use Rattle.table.proofs.Frame.{too-long-answer, too-long-result, made-answer, made-result}
 use Rattle.placing.specs.Written.{Written, Ends}
 use Rattle.placing.proofs.Placing.{true-fits, false-fits}
-use Rattle.headers.specs.Headable.{Headable}
+use Rattle.header_classes.specs.Headable.{Headable}
 use Rattle.headed_answers.specs.Finished.{Finishable, Finished, Given}
 
 -- of a step whose checks pass, what was given is how it ends

@@ -13,7 +13,7 @@ use Rattle.table.specs.Header.{headed, body}
 use Rattle.placing.specs.Written.{Written}
 use Rattle.placing.proofs.Placing.{true-fits}
 use Rattle.placing.proofs.Written.{written-part}
-use Rattle.headers.specs.Headable.{Headable}
+use Rattle.header_classes.specs.Headable.{Headable}
 use Rattle.headed_answers.specs.Finished.{Finishable, Finished, Given}
 use Rattle.headed_answers.proofs.Ends.{finishable, given-finished}
 

@@ -9,7 +9,7 @@ use Rattle.table.specs.declared.answer.Answer.{Answer}
 use Rattle.table.specs.declared.answer.Answer.the-variants.{Made, Refused}
 use Rattle.table.specs.Header.{headerOf, body}
 use Rattle.table.specs.StepChecks.{resultFits}
-use Rattle.headers.specs.Headable.{Headable}
+use Rattle.header_classes.specs.Headable.{Headable}
 
 -- n words of a slice, after its first, are words with a header; 0 where none were made
 pub record Finishable (s : List ℕ) (n : ℕ) : Type 0 where

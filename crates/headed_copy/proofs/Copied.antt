@@ -10,8 +10,8 @@ use Rattle.table.specs.declared.answer.Answer.{Answer}
 use Rattle.table.specs.Header.{headed, body}
 use Rattle.placing.specs.Written.{Written}
 use Rattle.placing.proofs.Putting.{fits-true}
-use Rattle.headers.specs.Headable.{Headable}
-use Rattle.headers.proofs.Headable.{some, few}
+use Rattle.header_classes.specs.Headable.{Headable}
+use Rattle.header_classes.proofs.Headable.{some, few}
 use Rattle.headed_answers.specs.Finished.{Finishable, Finished, Given}
 use Rattle.headed_answers.proofs.Lent.{lent-finishable, lent-given}
 

@@ -5,7 +5,7 @@ ghost use mathlib.Core.List.{_++_};
 ghost use Prim.Native.Nat.{_≤_};
 ghost use lib.ListN.{length, take, drop};
 ghost use Rattle.table.specs.Header.{headed};
-ghost use Rattle.headers.specs.Headable.{Headable};
+ghost use Rattle.header_classes.specs.Headable.{Headable};
 ghost use Rattle.headed_answers.specs.Finished.{Given};
 
 // The first n words of a slice at the front of another.

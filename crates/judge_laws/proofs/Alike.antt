@@ -23,9 +23,9 @@ use Rattle.tally.specs.declared.Desk.{Desk}
 use Rattle.judging.specs.declared.answer.Judged.{Judged}
 use Rattle.tally.specs.Tallies.{counted}
 use Rattle.judge_laws.specs.Alike.{Alike}
-use Rattle.row_filling.specs.Filling.{lassoOf, rowOf, rowsOf, rowsThen}
+use Rattle.table_rows.specs.Rows.{lassoOf, rowOf, rowsOf, rowsThen}
 use Rattle.judging.specs.Judging.{judgement, rowOutcome, judgeOutcome, replyBy, reply, scratchAfter, lastRow, partAt}
-use Rattle.row_filling.proofs.WordRow.{Inside, lasso-inside}
+use Rattle.table_rows.proofs.Parts.{Inside, lasso-inside}
 use Rattle.judging.proofs.Accepted.{accepted-facts}
 use Rattle.judging.proofs.LastRow.{judge-rows}
 use Rattle.judge_laws.proofs.Promise.{accepted-word, accepted-drives, rule-drives}

@@ -22,7 +22,7 @@ use Rattle.logic.proofs.Lasso.Truth.{truth-holds}
 use Rattle.logic.specs.Bit.{bit}
 use Rattle.row_words.specs.Row.{digit, row, rowWords, wordOf, countTrue, firstFalse}
 use Rattle.row_words.proofs.Bits.{bit-above, pack-lt}
-use Rattle.rows.proofs.Rows.{row-length, row-word, word-bit}
+use Rattle.row_words.proofs.Rows.{row-length, row-word, word-bit}
 use Rattle.refusals.specs.declared.Outcome.{Outcome}
 use Rattle.refusals.specs.declared.Outcome.the-variants.{Accepted, Refused}
 use Rattle.refusals.specs.Refusals.{outcomeNumber, outcomePlace}
@@ -32,13 +32,13 @@ use Rattle.table.proofs.Formulas.{length-formulas}
 use Rattle.table.proofs.Accepted.{accepted-well-formed}
 use Rattle.table.proofs.Letters.{formulas-driven}
 use Rattle.tally.specs.declared.Desk.{Desk}
-use Rattle.operand_rows.specs.Operands.{rowNumber}
-use Rattle.row_filling.specs.Filling.{lassoOf, rowOf, rowsThen}
+use Rattle.table_rows.specs.Rows.{rowNumber}
+use Rattle.table_rows.specs.Rows.{lassoOf, rowOf, rowsThen}
 use Rattle.judging.specs.Judging.{rowOutcome, judgeOutcome, replyBy, reply, scratchAfter, lastRow}
 use Rattle.judge_laws.specs.Answers.{said, holdsIn, Count, none, one-more, no-more, Judges}
 use Rattle.judge_conditions.proofs.Outcomes.{Judgeable}
-use Rattle.row_filling.proofs.Scratch.{width, row-part}
-use Rattle.row_filling.proofs.WordRow.{Inside, lasso-inside}
+use Rattle.table_rows.proofs.Rows.{width, row-part}
+use Rattle.table_rows.proofs.Parts.{Inside, lasso-inside}
 use Rattle.judging.proofs.Accepted.{accepted-facts}
 use Rattle.judging.proofs.LastRow.{judge-rows, accepted-scratch}
 

@@ -28,7 +28,7 @@ pub fn judge_reply(
             *holds = false;
             *moments = 0;
             *failing = 0;
-            let report = refusals::report_of(r);
+            let report = reports::report_of(r);
             *place = report.1;
             report.0
         }

@@ -8,7 +8,7 @@ use lib.ListN.{length}
 use Rattle.refusals.specs.declared.Outcome.the-variants.{Accepted}
 use Rattle.table.specs.Header.{body}
 use Rattle.table.proofs.Accepted.{accepted-well-formed}
-use Rattle.row_filling.specs.Filling.{Fillable}
+use Rattle.table_rows.specs.Rows.{Fillable}
 use Rattle.judging.specs.Judging.{rowOutcome}
 use Rattle.judge_conditions.proofs.Outcomes.{Judgeable, judgeable}
 

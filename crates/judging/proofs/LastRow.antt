@@ -25,11 +25,11 @@ use Rattle.judging.specs.declared.answer.Judgement.{Judgement}
 use Rattle.judging.specs.declared.answer.Judgement.the-variants.{Judged as JudgedAs, Refused as NotJudged}
 use Rattle.judging.specs.declared.answer.Judged.{Judged}
 use Rattle.tally.specs.Tallies.{isFull, counted, tallyAfter}
-use Rattle.row_filling.specs.Filling.{Fillable, lassoOf, rowOf, rowsThen}
+use Rattle.table_rows.specs.Rows.{Fillable, lassoOf, rowOf, rowsThen}
 use Rattle.judging.specs.Judging.{judgement, replyBy, rowOutcome, judgeOutcome, reply, scratchAfter, lastRow, partAt}
 use Rattle.judge_conditions.proofs.Outcomes.{judge-both, desk-accepted}
-use Rattle.row_filling.proofs.Scratch.{width, row-part}
-use Rattle.row_filling.proofs.WordRow.{Inside, lasso-inside, part-small, part-end, part-for}
+use Rattle.table_rows.proofs.Rows.{width, row-part}
+use Rattle.table_rows.proofs.Parts.{Inside, lasso-inside, part-small, part-end, part-for}
 
 -- what the judge accepts the row call accepts
 pub judge-rows : (t samples : List ℕ) (start driven : ℕ) (s : List ℕ) (desk : Desk)

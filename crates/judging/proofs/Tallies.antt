@@ -12,7 +12,7 @@ use Rattle.refusals.specs.declared.Outcome.{Outcome}
 use Rattle.refusals.specs.declared.Outcome.the-variants.{Accepted, Refused}
 use Rattle.tally.specs.declared.Tally.{Tally}
 use Rattle.tally.specs.Tallies.{noneJudged}
-use Rattle.row_filling.specs.Filling.{lassoOf}
+use Rattle.table_rows.specs.Rows.{lassoOf}
 use Rattle.judging.specs.declared.answer.Judgement.{Judgement}
 use Rattle.judging.specs.declared.answer.Judgement.the-variants.{Judged as JudgedAs, Refused as NotJudged}
 use Rattle.judging.specs.Judging.{judgeOutcome, replyBy, reply, deskOf, talliesAfter}

@@ -16,8 +16,8 @@ use Rattle.tally.specs.declared.Desk.{Desk}
 use Rattle.judging.specs.declared.answer.Judgement.{Judgement}
 use Rattle.judging.specs.declared.answer.Judgement.the-variants.{Judged as JudgedAs, Refused as NotJudged}
 use Rattle.judging.specs.declared.answer.Judged.{Judged}
-unfoldable pub use Rattle.row_filling.specs.Filling.{lassoOf, rowOf}
-use Rattle.row_filling.specs.Filling.{rowsThen}
+unfoldable pub use Rattle.table_rows.specs.Rows.{lassoOf, rowOf}
+use Rattle.table_rows.specs.Rows.{rowsThen}
 use Rattle.tally.specs.Tallies.{noneJudged, counted}
 use Rattle.judge_conditions.specs.Checks.{rowChecks, judgeChecks}
 

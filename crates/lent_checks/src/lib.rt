@@ -1,4 +1,4 @@
-// The checks of what a judgement is lent beside its table: the recording, the scratch and the named desk, each over the numbers that it looks at.
+// The checks of what a judgement is lent beside its table: the recording with the letters and the scratch, and the named desk, each over the numbers that it looks at.
 ghost use mathlib.Core.Path.{_≡_};
 ghost use Prim.Native.Nat.{_≤_};
 ghost use mathlib.Core.List.{_++_};
@@ -7,29 +7,11 @@ ghost use lib.ListN.{length};
 ghost use Rattle.table.specs.StepChecks.{letterChecks};
 ghost use Rattle.judge_conditions.specs.Checks.{recordingChecks, scratchChecks, deskChecks};
 use letter_checks::check_letters;
+use recording_checks::check_recording;
 use refusals::Outcome;
 use refusals::Refusal;
 use row_words::row_word::row_words;
 use tally::Desk;
-
-// 13 to 15, then 22.
-pub fn check_recording(samples: usize, start: usize, driven: usize) -> Outcome
-    ensures { λ r. ⌜ r ≡ first (recordingChecks samples start driven) ⌝ }
-{
-    if samples == 0 {
-        return Outcome::Refused(Refusal::NoSample);
-    }
-    if samples > 4096 {
-        return Outcome::Refused(Refusal::TooManySamples);
-    }
-    if start >= samples {
-        return Outcome::Refused(Refusal::LoopStartOutside);
-    }
-    if driven > 32 {
-        return Outcome::Refused(Refusal::TooManyDriven);
-    }
-    Outcome::Accepted
-}
 
 // 16.
 pub fn check_scratch(words: usize, samples: usize, scratch: usize) -> Outcome

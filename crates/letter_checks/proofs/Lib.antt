@@ -1,2 +1,2 @@
--- Which words name a letter that is not driven.
+-- Which letters are named that are not driven, word by word.
 pub mod Letters

@@ -1,19 +1,10 @@
 // Letters that a recording, or a sample, does not drive.
 use refusals::Outcome;
 use refusals::Refusal;
+use undriven_words::is_undriven;
 ghost use mathlib.Core.Path.{_≡_};
 ghost use Rattle.refusals.specs.Refusals.{first};
-ghost use Rattle.table.specs.StepChecks.{isUndriven, letterChecks, sampleChecks};
-
-// Whether a word names a letter that is not driven.
-fn is_undriven(word: u32, driven: usize) -> bool
-    ensures { λ r. ⌜ r ≡ isUndriven driven word ⌝ }
-{
-    match word::kind(word) {
-        3..=4 => word::right(word) > driven,
-        _ => false,
-    }
-}
+ghost use Rattle.table.specs.StepChecks.{letterChecks, sampleChecks};
 
 // 21: the lowest word that names one.
 pub fn check_letters(table: &[u32], driven: usize) -> Outcome

@@ -1,2 +1,2 @@
--- Letters of samples, packed.
-pub mod Packed
+-- A letter's word, or its denial's.
+pub mod Denied

@@ -1,5 +1,4 @@
 // The rooms of long drafts: numbers, a stack and an index of the size that they need, as in number_rooms, below.
-use draft::number;
 ghost use Rattle.number_rooms.specs.Rooms.{Asked, Made};
 
 pub fn of_3591(draft: &[u64], root: usize, result: &mut [u32]) -> usize
@@ -9,7 +8,7 @@ pub fn of_3591(draft: &[u64], root: usize, result: &mut [u32]) -> usize
     let mut numbers = [0u16; 3591];
     let mut stack = [0u32; 3591];
     let mut index = [0u16; 7184];
-    number::number(draft, root, &mut numbers, &mut stack, result, &mut index)
+    draft_numbering::number(draft, root, &mut numbers, &mut stack, result, &mut index)
 }
 
 pub fn of_28679(draft: &[u64], root: usize, result: &mut [u32]) -> usize
@@ -19,7 +18,7 @@ pub fn of_28679(draft: &[u64], root: usize, result: &mut [u32]) -> usize
     let mut numbers = [0u16; 28679];
     let mut stack = [0u32; 28679];
     let mut index = [0u16; 32768];
-    number::number(draft, root, &mut numbers, &mut stack, result, &mut index)
+    draft_numbering::number(draft, root, &mut numbers, &mut stack, result, &mut index)
 }
 
 pub fn of_32768(draft: &[u64], root: usize, result: &mut [u32]) -> usize
@@ -29,7 +28,7 @@ pub fn of_32768(draft: &[u64], root: usize, result: &mut [u32]) -> usize
     let mut numbers = [0u16; 32768];
     let mut stack = [0u32; 32768];
     let mut index = [0u16; 32768];
-    number::number(draft, root, &mut numbers, &mut stack, result, &mut index)
+    draft_numbering::number(draft, root, &mut numbers, &mut stack, result, &mut index)
 }
 
 pub fn of_49152(draft: &[u64], root: usize, result: &mut [u32]) -> usize
@@ -39,7 +38,7 @@ pub fn of_49152(draft: &[u64], root: usize, result: &mut [u32]) -> usize
     let mut numbers = [0u16; 49152];
     let mut stack = [0u32; 49152];
     let mut index = [0u16; 32768];
-    number::number(draft, root, &mut numbers, &mut stack, result, &mut index)
+    draft_numbering::number(draft, root, &mut numbers, &mut stack, result, &mut index)
 }
 
 pub fn of_114688(draft: &[u64], root: usize, result: &mut [u32]) -> usize
@@ -49,5 +48,5 @@ pub fn of_114688(draft: &[u64], root: usize, result: &mut [u32]) -> usize
     let mut numbers = [0u16; 114688];
     let mut stack = [0u32; 114688];
     let mut index = [0u16; 32768];
-    number::number(draft, root, &mut numbers, &mut stack, result, &mut index)
+    draft_numbering::number(draft, root, &mut numbers, &mut stack, result, &mut index)
 }

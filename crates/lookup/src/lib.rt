@@ -1,19 +1,18 @@
 // A hash index of the words of a table, by chains, in one lent slice: the count of words, then for each word the latest earlier word
 // of its bucket, and in the upper half the latest word of each bucket; 0 for none. Numbers fall along a chain, so a search ends.
 ghost use mathlib.Core.Path.{_≡_};
-ghost use mathlib.Core.List.{List, [], _∷_, _++_};
-ghost use Prim.Native.Nat.{ℕ, _+_, _≤_, _<_};
+ghost use Prim.Native.Nat.{_≤_, _<_};
 ghost use lib.ListN.{length, take};
-ghost use Rattle.lookup.specs.Index.{bucketOf, countOf, halfOf, Indexed, Found};
+ghost use Rattle.lookup.specs.Index.{bucketOf, countOf, Indexed, Found};
 
-fn wide(x: u16) -> usize
+pub fn wide(x: u16) -> usize
     ensures { λ r. ⌜ r ≡ x ⌝ }
 {
     x as usize
 }
 
 // The hash of the word, a part of 2^32, as the same part of the buckets: one multiplication each, and no division.
-fn bucket(half: usize, w: u32) -> usize
+pub fn bucket(half: usize, w: u32) -> usize
     requires { ⌜ (0 < half) × (half ≤ 16384) ⌝ }
     ensures { λ r. ⌜ (r ≡ bucketOf half w) × (r < half) ⌝ }
 {
@@ -43,18 +42,4 @@ pub fn find(words: &[u32], index: &[u16], w: u32) -> usize
         n = wide(index[n]);
     }
     0
-}
-
-// One word more, at the front of its chain.
-pub fn add(index: &mut [u16], w: u32)
-    requires { ⌜ (countOf (now index) + 1 < halfOf (now index)) × (length (now index) ≤ 32768) ⌝ }
-    ensures { λ r. ⌜ ((t : List ℕ) → Indexed t (now (index .entry)) → Indexed (t ++ (w ∷ [])) (now (index .exit))) ⌝ }
-{
-    let half = index.len() / 2;
-    let head = half + bucket(half, w);
-    let number = index[0] + 1;
-    let n = wide(number);
-    index[n] = index[head];
-    index[head] = number;
-    index[0] = number;
 }

@@ -20,7 +20,7 @@ use Rattle.table.proofs.Accepted.{accepted-well-formed}
 use Rattle.table.proofs.Letters.{formula-letters}
 use Rattle.table.proofs.Shapes.{shape-unary}
 use Rattle.slots.specs.Slot.{pack}
-use Rattle.draft.specs.Drafted.{Drafted}
+use Rattle.drafts.specs.Drafted.{Drafted}
 use Rattle.source.specs.Source.{Earlier, WordAt}
 use Rattle.source.proofs.Words.{plain-kind}
 use Rattle.automata.specs.Positive.{Positive, anyOf, atom}
@@ -31,10 +31,11 @@ use Rattle.state_slots.specs.Slots.{three}
 use Rattle.state_slots.proofs.Standing.{Stands, Keeps, keeps-all, keeps-set, keeps-three, drafted-keeps, stored-stands, copied-stands, apart-drafted}
 use Rattle.state_slots.proofs.Classes.{classed}
 use Rattle.word_states.specs.declared.Held.{Held}
-use Rattle.word_states.specs.States.{secondClass, shown, Moving}
+use Rattle.class_bits.specs.Levels.{secondClass}
+use Rattle.word_states.specs.States.{shown, Moving}
 use Rattle.word_states.proofs.Smallest.{bit-of, sigma-shown, pi-shown, second-shown, own-smallest}
 use Rattle.word_states.proofs.Words.{constant-at, letter-at, formula-by, kind-by, combined-proper, byte-is, state-stands}
-use Rattle.after_slots.specs.Slots.{constantAt}
+use Rattle.sample_letters.specs.Constant.{constantAt}
 use Rattle.move_slots.specs.Slots.{constantSlots, overSlots, junctionSlots, heldSlots, stateSlots, letterSlots}
 use Rattle.next_slots.specs.Slots.{nextSlots}
 use Rattle.temporal_slots.specs.Slots.{lane, innerSlot, outerSlot, fixpointSlots}

@@ -10,9 +10,10 @@ use Rattle.table.specs.Checks.{checked}
 use Rattle.automata_laws.specs.StateClass.{StateClass, sigma₁, pi₁, within}
 use Rattle.automata_laws.specs.FormulaAutomaton.{combination, moveOf, movedBy}
 use Rattle.state_classes.specs.Kept.{wordOf, Kept}
-use Rattle.draft.specs.Drafted.{Drafted}
+use Rattle.drafts.specs.Drafted.{Drafted}
 use Rattle.source.specs.Source.{Inside}
-use Rattle.word_states.specs.States.{secondClass, shown}
+use Rattle.class_bits.specs.Levels.{secondClass}
+use Rattle.word_states.specs.States.{shown}
 
 -- the three classes
 abbrev pub classAt : Bool → ℕ → StateClass

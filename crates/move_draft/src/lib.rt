@@ -22,7 +22,7 @@ fn step_word(
     let h = word_states::moving(bytes[j - 1], starts[j] as usize, upper);
     match kind {
         1..=2 => move_slots::constant(draft, j, kind),
-        3..=4 => move_slots::letter(draft, j, h, after_slots::reading(sample, kind, right)),
+        3..=4 => move_slots::letter(draft, j, h, sample_letters::reading(sample, kind, right)),
         5..=6 => move_slots::junction(draft, j, kind, left, right),
         7 => next_slots::next(draft, j, h, right),
         8..=9 => temporal_slots::fixpoint(draft, j, h, 5, 6, left, right),

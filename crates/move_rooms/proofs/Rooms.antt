@@ -5,7 +5,7 @@ use mathlib.Core.Path.{_≡_, refl, sym}
 use mathlib.Core.List.{List}
 use lib.ListN.{length}
 use Rattle.logic.specs.Formula.{Formula}
-use Rattle.draft.specs.Drafted.{Drafted}
+use Rattle.drafts.specs.Drafted.{Drafted}
 use Rattle.automata_tables.specs.Moves.{asFormula, writtenAt, moveTable}
 use Rattle.move_roots.specs.Roots.{Drawn}
 use Rattle.move_roots.proofs.Roots.{written-small, drafted-short}

@@ -13,8 +13,8 @@ use Rattle.table.specs.Checks.{checked}
 use Rattle.table.specs.Table.{formulas, rule}
 use Rattle.table.proofs.Accepted.{accepted-well-formed}
 use Rattle.table.specs.Numbering.{tableOf}
-use Rattle.draft.specs.Drafted.{Drafted}
-use Rattle.draft.proofs.Growth.{drafted-length}
+use Rattle.drafts.specs.Drafted.{Drafted}
+use Rattle.drafts.proofs.Growth.{drafted-length}
 use Rattle.automata.specs.Positive.{Positive, constant, atom, and, or}
 use Rattle.automata_laws.specs.StateClass.{StateClass, sigma₁, pi₁, sigma₂, pi₂, classBit, every, isSmallest}
 use Rattle.automata_laws.specs.FormulaAutomaton.{State, isProper, combination, moveOf}

@@ -2,7 +2,7 @@
 ghost use Prim.Native.Nat.{_+_, _*_, _≤_, _<_};
 ghost use mathlib.Core.Path.{_≡_};
 ghost use lib.ListN.{length};
-ghost use Rattle.draft.specs.Drafted.{Drafted};
+ghost use Rattle.drafts.specs.Drafted.{Drafted};
 ghost use Rattle.automata_tables.specs.Moves.{asFormula, writtenAt};
 ghost use Rattle.move_roots.specs.Roots.{rootOf, Drawn};
 

@@ -8,8 +8,8 @@ use Rattle.logic.proofs.Numbers.{getD-zeros}
 use Rattle.table.specs.Numbering.{room}
 use Rattle.placing.specs.State.{State, state, written, Numbered}
 use Rattle.placing.proofs.Written.{written-all}
-use Rattle.draft.specs.Numberable.{Numberable, Rooted}
-use Rattle.draft.proofs.Fresh.{fresh, fresh-numberable}
+use Rattle.draft_numbering.specs.Numberable.{Numberable, Rooted}
+use Rattle.draft_numbering.proofs.Fresh.{fresh, fresh-numberable}
 use Rattle.number_rooms.specs.Rooms.{Asked, Made}
 
 -- an array of n zeros, lent as a slice

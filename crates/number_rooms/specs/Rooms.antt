@@ -7,7 +7,7 @@ use Rattle.logic.specs.Formula.{Formula}
 use Rattle.logic.specs.Letters.{Letters}
 use Rattle.table.specs.Numbering.{tableOf}
 use Rattle.placing.specs.Written.{Written}
-use Rattle.draft.specs.Drafted.{Drafted}
+use Rattle.drafts.specs.Drafted.{Drafted}
 
 -- a draft of so many slots, whose root stands for a formula, and a slice of no more words
 pub record Asked (slots : ℕ) (d : List ℕ) (root : ℕ) (out : List ℕ) : Type 0 where

@@ -1,5 +1,4 @@
 // A draft numbered from no words, with numbers, a stack and an index of the size that it needs: short drafts pay for no more.
-use draft::number;
 ghost use Rattle.number_rooms.specs.Rooms.{Asked, Made};
 
 // Each room is named by the slots of its drafts. The table of the root's formula at the front of the result, and its length; 0 where it does not fit.
@@ -10,7 +9,7 @@ pub fn of_130(draft: &[u64], root: usize, result: &mut [u32]) -> usize
     let mut numbers = [0u16; 130];
     let mut stack = [0u32; 130];
     let mut index = [0u16; 262];
-    number::number(draft, root, &mut numbers, &mut stack, result, &mut index)
+    draft_numbering::number(draft, root, &mut numbers, &mut stack, result, &mut index)
 }
 
 pub fn of_195(draft: &[u64], root: usize, result: &mut [u32]) -> usize
@@ -20,7 +19,7 @@ pub fn of_195(draft: &[u64], root: usize, result: &mut [u32]) -> usize
     let mut numbers = [0u16; 195];
     let mut stack = [0u32; 195];
     let mut index = [0u16; 392];
-    number::number(draft, root, &mut numbers, &mut stack, result, &mut index)
+    draft_numbering::number(draft, root, &mut numbers, &mut stack, result, &mut index)
 }
 
 pub fn of_455(draft: &[u64], root: usize, result: &mut [u32]) -> usize
@@ -30,7 +29,7 @@ pub fn of_455(draft: &[u64], root: usize, result: &mut [u32]) -> usize
     let mut numbers = [0u16; 455];
     let mut stack = [0u32; 455];
     let mut index = [0u16; 912];
-    number::number(draft, root, &mut numbers, &mut stack, result, &mut index)
+    draft_numbering::number(draft, root, &mut numbers, &mut stack, result, &mut index)
 }
 
 pub fn of_514(draft: &[u64], root: usize, result: &mut [u32]) -> usize
@@ -40,7 +39,7 @@ pub fn of_514(draft: &[u64], root: usize, result: &mut [u32]) -> usize
     let mut numbers = [0u16; 514];
     let mut stack = [0u32; 514];
     let mut index = [0u16; 1030];
-    number::number(draft, root, &mut numbers, &mut stack, result, &mut index)
+    draft_numbering::number(draft, root, &mut numbers, &mut stack, result, &mut index)
 }
 
 pub fn of_1026(draft: &[u64], root: usize, result: &mut [u32]) -> usize
@@ -50,7 +49,7 @@ pub fn of_1026(draft: &[u64], root: usize, result: &mut [u32]) -> usize
     let mut numbers = [0u16; 1026];
     let mut stack = [0u32; 1026];
     let mut index = [0u16; 2054];
-    number::number(draft, root, &mut numbers, &mut stack, result, &mut index)
+    draft_numbering::number(draft, root, &mut numbers, &mut stack, result, &mut index)
 }
 
 pub fn of_1539(draft: &[u64], root: usize, result: &mut [u32]) -> usize
@@ -60,5 +59,5 @@ pub fn of_1539(draft: &[u64], root: usize, result: &mut [u32]) -> usize
     let mut numbers = [0u16; 1539];
     let mut stack = [0u32; 1539];
     let mut index = [0u16; 3080];
-    number::number(draft, root, &mut numbers, &mut stack, result, &mut index)
+    draft_numbering::number(draft, root, &mut numbers, &mut stack, result, &mut index)
 }

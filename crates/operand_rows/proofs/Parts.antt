@@ -2,14 +2,11 @@
 use Prim.Native.Nat.{ℕ, _+_, _-_, _*_, _≤_, _<_}
 use mathlib.Core.Path.{_≡_, ap, _∙_}
 use mathlib.Core.List.{List}
-use native.Mathlib.Nat.{suc-mul, mul-le-mul-right}
 use native.Mathlib.Omega.{arith}
 use lib.ListN.{length, take, drop}
-use Rattle.operand_rows.specs.Operands.{rowNumber, Standing}
-
--- the part of one row among so many
-pub row-end : (m k words n : ℕ) → m < k → k * words ≤ n → m * words + words ≤ n
-row-end m k words n h l = omega (arith, suc-mul m words, mul-le-mul-right words h)
+use Rattle.table_rows.specs.Rows.{rowNumber}
+use Rattle.table_rows.proofs.Parts.{row-end}
+use Rattle.operand_rows.specs.Operands.{Standing}
 
 -- the part of a word's row that stands
 pub standing-end : {n words w : ℕ} {s : List ℕ} → words ≡ w → Standing n w s → (n - 1) * words + words ≤ length s

@@ -2,18 +2,14 @@
 use Prim.Native.Nat.{ℕ, _*_, _≤_}
 use mathlib.Core.Path.{_≡_}
 use mathlib.Core.List.{List}
-use lib.ListN.{length, take, drop}
+use lib.ListN.{length}
 use Rattle.logic.specs.Truth.{Sequence, across}
 use Rattle.row_words.specs.Row.{row}
 use Rattle.row_words.specs.Writing.{joins}
 use Rattle.operators.specs.declared.operator.Operator.{Operator}
 use Rattle.operators.specs.declared.operator.Operator.the-variants.{Constant, Letter, Each, Next, Fixpoint}
 
--- row number j, counted from 0, among rows of so many words
-abbrev pub rowNumber : ℕ → ℕ → List ℕ → List ℕ
-rowNumber words j scratch = take words (drop (j * words) scratch)
-
--- word number n has a row among them
+-- word number n has a row among rows of so many words
 pub record Standing (n words : ℕ) (scratch : List ℕ) : Type 0 where
   pub some : 1 ≤ n
   pub room : n * words ≤ length scratch

@@ -1,3 +1,2 @@
--- The laws of plain kinds, and of masked bytes.
-pub mod PlainKind
+-- The laws of masked bytes.
 pub mod Shifts

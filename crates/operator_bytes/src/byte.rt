@@ -1,9 +1,9 @@
 // The class byte of a word from its operands' class bytes. Bits, lowest first: class zero, Sigma-1, Pi-1, Delta-1, Sigma-2, Pi-2, Delta-2.
-use crate::kind::Operator;
+use plain_kinds::Operator;
 ghost use mathlib.Core.Path.{_≡_};
 ghost use Prim.Native.Nat.{_<_};
 ghost use Rattle.logic.specs.ClassStep.{withDelta, nextByte, leastByte, greatestByte};
-ghost use Rattle.operator_bytes.specs.PlainKind.{operatorByte};
+ghost use Rattle.plain_kinds.specs.PlainKind.{operatorByte};
 
 // Delta-1 from Sigma-1 or Pi-1, and Delta-2 from Sigma-2 or Pi-2.
 fn with_delta(k: u8) -> u8

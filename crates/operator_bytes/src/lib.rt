@@ -1,3 +1,2 @@
 // The class byte of an operator from the bytes of its operands.
 pub mod byte;
-pub mod kind;

@@ -8,7 +8,7 @@ use Rattle.logic.specs.Lasso.{place, word, lassoOf}
 use Rattle.logic.specs.Semantics.{Holds}
 use Rattle.row_words.specs.Row.{rowWords}
 use Rattle.table.specs.Table.{rule}
-use Rattle.operand_rows.specs.Operands.{rowNumber}
+use Rattle.table_rows.specs.Rows.{rowNumber}
 use Rattle.judge_laws.specs.Answers.{holdsIn}
 use Rattle.part_laws.specs.Parts.{partOf, OnlyLasting, AllLasting}
 use Rattle.part_laws.specs.Told.{PartWord}

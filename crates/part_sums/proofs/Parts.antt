@@ -11,10 +11,10 @@ use Rattle.logic.specs.Formula.{Formula, const, lit, un, bin, disj}
 use Rattle.transforms.specs.NormalForm.{chosenIn}
 use Rattle.transforms.specs.Folding.{foldBinary}
 use Rattle.slots.specs.Slot.{kind}
-use Rattle.draft.specs.Drafted.{Drafted}
-use Rattle.draft.proofs.Drafts.{drafted-within}
+use Rattle.drafts.specs.Drafted.{Drafted}
+use Rattle.drafts.proofs.Drafts.{drafted-within}
 use Rattle.folding.proofs.Roots.{kind-constant, constant-kind}
-use Rattle.filling.specs.Filled.{Laid}
+use Rattle.choosing.specs.Filled.{Laid}
 use Rattle.placing.specs.State.{State, Numbered}
 use Rattle.parts.specs.Parts.{foldedPart}
 use Rattle.true_parts.proofs.Looks.{ready-again}

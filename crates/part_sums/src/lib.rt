@@ -6,7 +6,7 @@ ghost use mathlib.Core.List.{[], _∷_};
 ghost use lib.ListN.{length};
 ghost use Rattle.transforms.specs.NormalForm.{chosenIn};
 ghost use Rattle.placing.specs.State.{state};
-ghost use Rattle.filling.specs.Filled.{Laid};
+ghost use Rattle.choosing.specs.Filled.{Laid};
 ghost use Rattle.sums.specs.Summed.{Small, Grown};
 ghost use Rattle.part_sums.specs.Joining.{joined, Untrue, Joinable};
 

@@ -5,8 +5,8 @@ use mathlib.Core.Path.{_≡_}
 use mathlib.Core.List.{List}
 use lib.ListN.{length}
 use Rattle.logic.specs.Formula.{Formula}
-use Rattle.draft.specs.Drafted.{Drafted}
-use Rattle.draft.proofs.Drafts.{drafted-within}
+use Rattle.drafts.specs.Drafted.{Drafted}
+use Rattle.drafts.proofs.Drafts.{drafted-within}
 use Rattle.folding.specs.Folded.{Foldable}
 use Rattle.parts.specs.Parts.{Ready}
 

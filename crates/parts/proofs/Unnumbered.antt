@@ -4,8 +4,8 @@ use mathlib.Core.Path.{_≡_}
 use mathlib.Core.List.{List}
 use lib.ListN.{length, replicate, length-replicate}
 use Rattle.placing.specs.State.{State, written}
-use Rattle.draft.specs.Numberable.{Numberable}
-use Rattle.draft.proofs.Remembering.{remembered-none}
+use Rattle.draft_numbering.specs.Numberable.{Numberable}
+use Rattle.draft_numbering.proofs.Remembering.{remembered-none}
 use Rattle.parts.specs.Parts.{Numberless}
 
 -- a draft is numbered from no numbers

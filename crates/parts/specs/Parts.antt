@@ -9,8 +9,8 @@ use Rattle.transforms.specs.Folding.{fold}
 use Rattle.table.specs.Table.{rule}
 use Rattle.table.specs.Steps.{fixpoints}
 use Rattle.placing.specs.State.{State, Numbered}
-use Rattle.draft.specs.Drafted.{Drafted}
-use Rattle.filling.specs.Filled.{Fillable}
+use Rattle.drafts.specs.Drafted.{Drafted}
+use Rattle.choosing.specs.Filled.{Fillable}
 
 abbrev pub foldedPart : List ℕ → ℕ → Formula
 foldedPart t c = fold (part (fixpoints t) (rule t) c)

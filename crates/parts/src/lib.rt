@@ -1,11 +1,10 @@
 // The part of a choice, drafted and folded; and a slot numbered from no numbers.
-use draft::number;
 ghost use lib.ListN.{length};
 ghost use Rattle.logic.specs.Formula.{Formula};
 ghost use Rattle.table.specs.Numbering.{build};
 ghost use Rattle.placing.specs.State.{state, written, Placing};
-ghost use Rattle.draft.specs.Drafted.{Drafted};
-ghost use Rattle.filling.specs.Filled.{Laid};
+ghost use Rattle.drafts.specs.Drafted.{Drafted};
+ghost use Rattle.choosing.specs.Filled.{Laid};
 ghost use Rattle.parts.specs.Parts.{foldedPart, Ready, Numberless};
 
 // Fills and folds the draft of a choice, and hands back the slot of its part. The words stay laid out, for the next choice.
@@ -41,6 +40,6 @@ pub fn number(
         (build (written (state (now (out .entry)) (now (index .entry)))) φ)
         r) ⌝ }
 {
-    clearing::numbers(numbers);
-    number::number(folded, root, numbers, stack, out, index)
+    number_clearing::numbers(numbers);
+    draft_numbering::number(folded, root, numbers, stack, out, index)
 }

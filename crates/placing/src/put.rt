@@ -23,6 +23,6 @@ pub fn put(out: &mut [u32], index: &mut [u16], w: u32) -> usize
         return 0;
     }
     out[n] = w;
-    lookup::add(&mut *index, w);
+    indexing::add(&mut *index, w);
     n + 1
 }

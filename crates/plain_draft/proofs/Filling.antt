@@ -13,21 +13,12 @@ use Rattle.logic.specs.NegationNormalForm as form
 use Rattle.table.specs.Node.{Shape, constant, letter, unary, binary, kindOf}
 use Rattle.table.specs.Table.{formulaOf}
 use Rattle.slots.specs.Slot.{pack, Stored}
-use Rattle.draft.specs.Drafted.{SlotIs, Drafted}
+use Rattle.drafts.specs.Drafted.{SlotIs, Drafted}
 use Rattle.source.specs.Source.{Earlier}
-use Rattle.plain_draft.specs.Forming.{formOf, slotOf, Filled, Asked, Formed}
+use Rattle.plain_laws.specs.Forms.{formOf, slotOf}
+use Rattle.plain_laws.proofs.Slots.{slot-same, slot-bounds}
+use Rattle.plain_draft.specs.Forming.{Filled, Asked, Formed}
 use Rattle.plain_draft.proofs.Shapes.{isWord, kind-positive}
-
--- different forms have different slots
-pub slot-same : (p q : Bool) (i j : ℕ) → slotOf p i ≡ slotOf q j → (p ≡ q) × (i ≡ j)
-slot-same true true i j e = (refl, omega arith)
-slot-same true false i j e = absurd (omega arith)
-slot-same false true i j e = absurd (omega arith)
-slot-same false false i j e = (refl, omega arith)
-
-pub slot-bounds : (p : Bool) (j : ℕ) → (2 * j ≤ slotOf p j) × (slotOf p j < 2 * j + 2)
-slot-bounds true j = (omega arith, omega arith)
-slot-bounds false j = (omega arith, omega arith)
 
 -- the slot of a word is not empty
 word-positive : (s : Shape) (l r : ℕ) → T (isWord s) → 0 < pack (kindOf s) l r

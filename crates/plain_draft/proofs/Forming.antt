@@ -12,13 +12,15 @@ use Rattle.table.specs.Table.{formulas, formulaOf}
 use Rattle.table.specs.Checks.{isOperand}
 use Rattle.table.proofs.Shapes.{shape-unary, shape-binary, kindOf-shape}
 use Rattle.slots.specs.Slot.{pack, Stored}
-use Rattle.draft.specs.Drafted.{Drafted}
-use Rattle.draft.proofs.Drafts.{slot-set}
+use Rattle.drafts.specs.Drafted.{Drafted}
+use Rattle.drafts.proofs.Drafts.{slot-set}
 use Rattle.source.specs.Kinds.{signedKind}
 use Rattle.source.specs.Source.{Earlier, WordAt}
-use Rattle.plain_draft.specs.Forming.{formOf, slotOf, Asked, Formed}
+use Rattle.plain_laws.specs.Forms.{formOf, slotOf}
+use Rattle.plain_draft.specs.Forming.{Asked, Formed}
 use Rattle.plain_draft.proofs.Shapes.{right-by, leaf-by, IsOperator, Operator, operator-by}
-use Rattle.plain_draft.proofs.Filling.{slot-bounds, slot-inside, drafted-kept, stored-form, formed-then, asked-then, constant-form, constant-formed}
+use Rattle.plain_laws.proofs.Slots.{slot-bounds}
+use Rattle.plain_draft.proofs.Filling.{slot-inside, drafted-kept, stored-form, formed-then, asked-then, constant-form, constant-formed}
 
 -- all but constants and letters have a right operand
 pub right-earlier : {t : List ℕ} {j k l r : ℕ} → WordAt t j k l r → 5 ≤ k → Earlier r j

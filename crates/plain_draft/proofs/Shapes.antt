@@ -12,7 +12,7 @@ use Rattle.table.specs.Table.{formulaBy}
 use Rattle.table.specs.Checks.{isOperand, isBlank}
 use Rattle.table.proofs.Shapes.{shape-kindOf, kindOf-shape}
 use Rattle.slots.specs.Slot.{pack}
-use Rattle.draft.specs.Drafted.{SlotIs, Drafted}
+use Rattle.drafts.specs.Drafted.{SlotIs, Drafted}
 use Rattle.source.specs.Kinds.{signed, signedKind}
 
 -- kind 0 alone stands for nothing

@@ -1,23 +1,13 @@
--- The draft of a plain form: the slots of the forms of each written word, and what filling some of them makes of a draft.
+-- The draft of a plain form: what filling some of its slots makes of a draft.
 use Prim.Native.Nat.{ℕ, _+_, _*_, _<_, _≤_}
 use mathlib.Core.Path.{_≡_}
-use mathlib.Core.Bool.{Bool, true, false}
+use mathlib.Core.Bool.{Bool}
 use mathlib.Core.List.{List}
 use lib.ListN.{length, getD}
 use Rattle.logic.specs.Formula.{Formula}
-use Rattle.logic.specs.NegationNormalForm.{plain}
-use Rattle.table.specs.Table.{formulas, formulaOf}
-use Rattle.draft.specs.Drafted.{Drafted}
+use Rattle.drafts.specs.Drafted.{Drafted}
 use Rattle.source.specs.Source.{Inside}
-
--- the plain form of word j (true), or of its denial (false); those of word 0, which stands for false, are the constants
-abbrev pub formOf : Bool → List ℕ → ℕ → Formula
-formOf p t j = plain p (formulaOf (formulas t) j)
-
--- the slot of that form
-abbrev pub slotOf : Bool → ℕ → ℕ
-slotOf true j = 2 * j
-slotOf false j = 2 * j + 1
+use Rattle.plain_laws.specs.Forms.{formOf, slotOf}
 
 -- the constants stand, and a slot that is filled stands for its form
 pub record Filled (t d : List ℕ) : Type 0 where

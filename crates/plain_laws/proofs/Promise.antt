@@ -36,8 +36,8 @@ use Rattle.numbering.proofs.Building.{tableOf-distinct}
 use Rattle.numbering.proofs.Built.{Built, Hereditary, tableOf-built, made-held, held-once}
 use Rattle.numbering.proofs.Used.{rule-tableOf}
 use Rattle.numbering.proofs.Accepted.{plain-small, accepted-tableOf}
-use Rattle.plain_draft.specs.Forming.{formOf, slotOf}
-use Rattle.plain_draft.proofs.Filling.{slot-same, slot-bounds}
+use Rattle.plain_laws.specs.Forms.{formOf, slotOf}
+use Rattle.plain_laws.proofs.Slots.{slot-same, slot-bounds}
 use Rattle.logic.proofs.Pigeonhole.{pigeonhole}
 use Rattle.transforms.proofs.Letters.{letters-plain}
 

@@ -12,7 +12,7 @@ use Rattle.table.specs.Table.{rule}
 use Rattle.table.specs.Steps.{plainTable}
 use Rattle.numbering.proofs.Accepted.{rule-small}
 use Rattle.placing.specs.Written.{Written}
-use Rattle.draft.specs.Drafted.{Drafted}
+use Rattle.drafts.specs.Drafted.{Drafted}
 use Rattle.number_rooms.specs.Rooms as numbers
 use Rattle.number_rooms.proofs.Rooms.{still-long}
 use Rattle.plain_rooms.specs.Rooms.{Empty, Asked}

@@ -8,10 +8,12 @@ use lib.ListN.{length, getD, set, length-set}
 use lib.Seq.{getD-set-same, getD-set-other}
 use Rattle.table.proofs.Accepted.{accepted-well-formed}
 use Rattle.slots.specs.Slot.{pack, Stored}
-use Rattle.draft.specs.Drafted.{Drafted}
-use Rattle.plain_draft.specs.Forming.{formOf, slotOf, Filled, Asked}
+use Rattle.drafts.specs.Drafted.{Drafted}
+use Rattle.plain_laws.specs.Forms.{formOf, slotOf}
+use Rattle.plain_draft.specs.Forming.{Filled, Asked}
 use Rattle.plain_rooms.specs.Rooms.{Empty}
-use Rattle.plain_draft.proofs.Filling.{slot-bounds, constant-form}
+use Rattle.plain_laws.proofs.Slots.{slot-bounds}
+use Rattle.plain_draft.proofs.Filling.{constant-form}
 
 module _ {t d : List ℕ} (q : Empty t d) (a b : ℕ) where
   two : 2 ≤ length d

@@ -4,7 +4,7 @@ ghost use mathlib.Core.Bool.{true};
 ghost use Rattle.logic.specs.NegationNormalForm.{plain};
 ghost use Rattle.table.specs.Table.{rule};
 ghost use Rattle.table.specs.Steps.{plainTable};
-ghost use Rattle.draft.specs.Drafted.{Drafted};
+ghost use Rattle.drafts.specs.Drafted.{Drafted};
 ghost use Rattle.placing.specs.Written.{Written};
 ghost use Rattle.plain_rooms.specs.Rooms.{Empty, Asked};
 

@@ -11,13 +11,13 @@ fn numbers(number: u32, place: usize) {
 }
 
 pub fn refused(r: Refusal) {
-    let report = refusals::report_of(r);
+    let report = reports::report_of(r);
     numbers(report.0, report.1);
 }
 
 // Why a text is refused; where it departs from the grammar, the text itself too.
 pub fn refused_text(r: Refusal, bytes: &[u8]) {
-    let report = refusals::report_of(r);
+    let report = reports::report_of(r);
     numbers(report.0, report.1);
     if report.0 == 19 {
         departure(bytes, report.1);

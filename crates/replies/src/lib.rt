@@ -16,7 +16,7 @@ pub fn reply(o: Outcome, place: &mut usize) -> u32
             0
         }
         Outcome::Refused(r) => {
-            let told = refusals::report_of(r);
+            let told = reports::report_of(r);
             *place = told.1;
             told.0
         }
@@ -34,7 +34,7 @@ pub fn table_reply(a: Answer, words: &mut usize, place: &mut usize) -> u32
             0
         }
         Answer::Refused(r) => {
-            let report = refusals::report_of(r);
+            let report = reports::report_of(r);
             *words = 0;
             *place = report.1;
             report.0
@@ -60,7 +60,7 @@ pub fn form_reply(f: Form, own: &mut bool, words: &mut usize, place: &mut usize)
             0
         }
         Form::Refused(r) => {
-            let report = refusals::report_of(r);
+            let report = reports::report_of(r);
             *own = false;
             *words = 0;
             *place = report.1;

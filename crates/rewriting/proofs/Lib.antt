@@ -1,2 +1,2 @@
--- The slots of a word's three forms.
-pub mod Rewritten
+-- The slots of a word's opening form.
+pub mod Opened

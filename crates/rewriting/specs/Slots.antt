@@ -1,10 +1,9 @@
--- What each rewriting of a word puts into its slot.
+-- The rewritings of a word, the slot of a formula, and what the opening form of a word puts into its slots.
 use Prim.Native.Nat.{ℕ, _<_}
 use mathlib.Core.Path.{_≡_}
-use mathlib.Core.Bool.{Bool, true, cond}
+use mathlib.Core.Bool.{Bool, cond}
 use Rattle.logic.specs.Formula.{Formula, Binary, const, lit, un, bin, conj, disj, until, weak, release, strong, implies}
 use Rattle.transforms.specs.Rewriting.{steady, recurring, opening}
-use Rattle.transforms.specs.NormalForm.{isLeast, isGreatest}
 use Rattle.table.specs.Node.{Shape, none, constant, letter, unary, binary, kind, left, right, shape, unaryKind, binaryKind}
 use Rattle.table.specs.Table.{formulaBy}
 use Rattle.slots.specs.Slot.{pack}
@@ -34,13 +33,6 @@ slotBy (const b) l r = pack (cond b 2 1) 0 0
 slotBy (lit b p) l r = pack (cond b 3 4) 0 p
 slotBy (un o a) l r = pack (unaryKind o) 0 r
 slotBy (bin o a b) l r = pack (binaryKind o) l r
-
--- x is the slot of the rewriting of word w, over operands at the slots l and r, by whether the word is in M or N
-pub record Rewritten (m : Rewriting) (w : ℕ) (chosen : Bool) (l r x : ℕ) : Type 0 where
-  pub is : (M N : Formula → Bool) (a b : Formula)
-      → (isLeast (wordBy w a b) ≡ true → M (wordBy w a b) ≡ chosen)
-      → (isGreatest (wordBy w a b) ≡ true → N (wordBy w a b) ≡ chosen)
-      → x ≡ slotBy (by m M N (wordBy w a b)) l r
 
 -- the operands of an opening form: for R the left one, and for W the right one, is an or with a G
 abbrev pub leftBy : Binary → ℕ → ℕ → ℕ

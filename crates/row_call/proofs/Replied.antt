@@ -1,39 +1,19 @@
--- The row call's reply in lent numbers, and the scratch, speak of the outcome that the contract names.
-use Prim.Native.Nat.{ℕ, _-_, _*_}
-use mathlib.Core.Path.{_≡_, sym, ap, ap₂, _∙_}
+-- What is told of an outcome is told of the one that the contract names.
+use Prim.Native.Nat.{ℕ, _-_}
+use mathlib.Core.Path.{_≡_, ap, _∙_, subst}
 use mathlib.Core.List.{List}
-use lib.ListN.{length}
+use native.Mathlib.Omega.{arith}
+use lib.ListN.{length, length-drop}
 use Rattle.refusals.specs.declared.Outcome.{Outcome}
-use Rattle.refusals.specs.declared.Outcome.the-variants.{Accepted, Refused}
-use Rattle.refusals.specs.declared.Refusal.{Refusal}
-use Rattle.refusals.specs.Refusals.{numberOf, placeOf, outcomeNumber, outcomePlace}
-use Rattle.row_words.specs.Row.{rowWords}
-use Rattle.judging.specs.Judging.{scratchAfter}
-use Rattle.judging.proofs.LastRow.{words-before}
 use Rattle.table.specs.Header.{body}
-use Rattle.judge_replies.specs.Replies.{RowReply, rowFrom, rowLength}
+use Rattle.judging.specs.Judging.{scratchAfter}
+use Rattle.judge_replies.specs.Replies.{RowReply}
 
-pub row-accepted : {o : Outcome} (table : List ℕ) {samples width : ℕ} → o ≡ Accepted → width ≡ rowWords samples
-    → RowReply o (length (body table)) samples 0 ((length table - 2) * width) width 0
-row-accepted table {samples = samples} e wide =
-    let back = sym e in
-    record {
-      is-number = ap outcomeNumber back;
-      is-from = ap₂ (λ (n w : ℕ). n * w) (words-before table) wide ∙ ap (λ (o : Outcome). rowFrom o (length (body table)) samples) back;
-      is-words = wide ∙ ap (λ (o : Outcome). rowLength o samples) back;
-      is-place = ap outcomePlace back;
-    }
-
-pub row-refused : {o : Outcome} {why : Refusal} {table samples number place : ℕ} → o ≡ Refused why
-    → number ≡ numberOf why → place ≡ placeOf why → RowReply o table samples number 0 0 place
-row-refused {table = table} {samples = samples} e told at =
-    let back = sym e in
-    record {
-      is-number = told ∙ ap outcomeNumber back;
-      is-from = ap (λ (o : Outcome). rowFrom o table samples) back;
-      is-words = ap (λ (o : Outcome). rowLength o samples) back;
-      is-place = at ∙ ap outcomePlace back;
-    }
+pub reply-told : {o p : Outcome} (table : List ℕ) {samples number from words place : ℕ} → o ≡ p
+    → RowReply o (length table - 1) samples number from words place → RowReply p (length (body table)) samples number from words place
+reply-told {o} table {samples} {number} {from} {words} {place} e r =
+    subst (λ (x : Outcome). RowReply x (length (body table)) samples number from words place) e
+    (subst (λ (n : ℕ). RowReply o n samples number from words place) (omega (arith, length-drop 1 table)) r)
 
 pub scratch-told : {o p : Outcome} {after : List ℕ} (table samples : List ℕ) (start driven : ℕ) (scratch : List ℕ) → o ≡ p
     → after ≡ scratchAfter o table samples start driven scratch → after ≡ scratchAfter p table samples start driven scratch

@@ -4,8 +4,7 @@ ghost use lib.ListN.{length};
 ghost use Rattle.table.specs.Header.{body};
 ghost use Rattle.judging.specs.Judging.{rowOutcome, scratchAfter};
 ghost use Rattle.judge_replies.specs.Replies.{RowReply};
-use refusals::Outcome;
-use row_words::row_word::row_words;
+use row_replies::row_reply;
 
 // The row call: which part of the scratch is the rule's own row, by its first word and its length.
 pub fn row(
@@ -25,20 +24,6 @@ pub fn row(
         (rowOutcome (now (table .entry)) (now (samples .entry)) start driven (now (scratch .entry)))
         (now (table .entry)) (now (samples .entry)) start driven (now (scratch .entry)) ⌝ }
 {
-    match rule_rows::fill(table, samples, start, driven, scratch) {
-        Outcome::Refused(why) => {
-            *from = 0;
-            *words = 0;
-            let report = refusals::report_of(why);
-            *place = report.1;
-            report.0
-        }
-        Outcome::Accepted => {
-            let width = row_words(samples.len());
-            *from = (table.len() - 2) * width;
-            *words = width;
-            *place = 0;
-            0
-        }
-    }
+    let outcome = rule_rows::fill(table, samples, start, driven, scratch);
+    row_reply(outcome, table.len(), samples.len(), from, words, place)
 }

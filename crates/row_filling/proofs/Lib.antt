@@ -1,4 +1,3 @@
--- The laws of the scratch, and one word's turn.
-pub mod Scratch
+-- One word's turn.
 pub mod Looped
 pub mod WordRow

@@ -11,12 +11,12 @@ use Rattle.logic.specs.Lasso.{Lasso, place, word}
 use Rattle.logic.specs.Truth.{Operation, unaryOperation, binaryOperation, looped, truth}
 use Rattle.logic.proofs.Lasso.Sweep.{applied-looped}
 use Rattle.row_words.specs.Row.{row}
-use Rattle.rows.proofs.Rows.{row-ext}
+use Rattle.row_words.proofs.Rows.{row-ext}
 use Rattle.table.specs.Node.{Shape, none, constant, letter, unary, binary, kind, left, right, shape, leftField, rightField}
 use Rattle.table.specs.Table.{formulaBy, formulaOf, wordFormula}
 use Rattle.table.specs.Checks.{isBlank, isOperand, isProposition}
 use Rattle.table.proofs.Accepted.{WellFormedWord}
-use Rattle.row_filling.specs.Filling.{rowOf}
+use Rattle.table_rows.specs.Rows.{rowOf}
 use Rattle.operators.specs.Looped.{literally, operation, meaning, rowBy}
 use Rattle.row_filling.specs.Filling.{firstOperand}
 

@@ -4,27 +4,26 @@ use mathlib.Core.Path.{_≡_, sym, ap, ap₂, subst, _∙_}
 use mathlib.Core.Bool.{Bool, false}
 use mathlib.Core.List.{List, [], _∷_, _++_}
 use native.Mathlib.Numerals.{add-one}
-use native.Mathlib.Nat.{mul-le-mul, mul-le-mul-right, le-trans}
+use native.Mathlib.Nat.{mul-le-mul-right, le-trans}
 use native.Mathlib.Omega.{arith}
-use lib.ListN.{length, getD, take, drop, length-drop}
+use lib.ListN.{length, getD, take, drop}
 use lib.Seq.{take-all, take-suc, length-take-le}
 use Rattle.logic.specs.Formula.{Formula, const}
 use Rattle.logic.specs.Lasso.{Lasso}
 use Rattle.logic.specs.Truth.{Sequence, Operation, truth}
 use Rattle.row_words.specs.Row.{row, rowWords}
-use Rattle.row_words.specs.Writing.{RowFor}
 use Rattle.table.specs.Node.{kind, right, shape}
 use Rattle.table.specs.Table.{formulaOf, wordFormula, formulas}
 use Rattle.table.proofs.Formulas.{length-formulas, formula-at}
-use Rattle.table.proofs.Accepted.{WellFormed, WellFormedWord, accepted-well-formed}
+use Rattle.table.proofs.Accepted.{WellFormedWord, accepted-well-formed}
 use Rattle.operators.specs.declared.operator.Operator.{Operator}
-use Rattle.operand_rows.specs.Operands.{rowNumber, Standing, Prepared}
-use Rattle.row_filling.specs.Filling.{lassoOf, rowOf, rowsThen, Fillable, firstOperand}
+use Rattle.table_rows.specs.Rows.{lassoOf, rowNumber, rowOf, rowsThen, Fillable}
+use Rattle.operand_rows.specs.Operands.{Standing, Prepared}
+use Rattle.row_filling.specs.Filling.{firstOperand}
 use Rattle.operators.specs.Looped.{Meaning, literally, operation, meaning, does, rowBy}
 use Rattle.row_filling.proofs.Looped.{Earlier, operands-earlier, letter-known, word-row}
-use Rattle.row_filling.proofs.Scratch.{width, row-part, rowsThen-over, rowsThen-more}
-use Rattle.operand_rows.proofs.Parts.{row-end}
-pub use Rattle.logic.proofs.Lasso.Period.{Inside, lasso-inside}
+use Rattle.table_rows.proofs.Rows.{width, row-part, rowsThen-over, rowsThen-more}
+use Rattle.table_rows.proofs.Parts.{Inside, lasso-inside, part-end}
 
 -- the row of an earlier word
 operand-row : (r : Lasso) (φs : List Formula) (s : List ℕ) (n : ℕ) → s ≡ rowsThen r φs s → 1 ≤ n → n ≤ length φs
@@ -41,31 +40,8 @@ withRow n words s e = take (n * words) s ++ (e ++ drop words (drop (n * words) s
 
 module _ (t samples : List ℕ) (start j : ℕ) (s : List ℕ) (words : ℕ) (h : j < length t)
     (facts : Fillable t samples start s) (wide : words ≡ rowWords (length samples)) where
-  well-formed : WellFormed false 16383 t
-  well-formed = accepted-well-formed false 16383 t (facts .accepted)
-
-  few-words : words ≤ 64
-  few-words = rw wide (omega (arith, facts .few))
-
-  pub part-end : j * words + words ≤ length s
-  part-end = row-end j (length t) words (length s) h (subst (λ (w : ℕ). length t * w ≤ length s) (sym wide) (facts .room))
-
-  pub part-small : j * words + words ≤ 1048576
-  part-small =
-      let few : j ≤ 16383 = omega (arith, well-formed .few) in
-      omega (arith, mul-le-mul few few-words, few-words)
-
-  pub part-for : RowFor (length samples) (take (j * words + words - j * words) (drop (j * words) s))
-  part-for = record {
-    some = facts .some;
-    few = facts .few;
-    size =
-        length-take-le (j * words + words - j * words) (drop (j * words) s) (simp length-drop (omega (arith, part-end)))
-        ∙ omega (arith, wide);
-  }
-
   formed : WellFormedWord false (take j t) (suc j) (getD t j 0)
-  formed = well-formed .word j h
+  formed = accepted-well-formed false 16383 t (facts .accepted) .word j h
 
   pub start-inside : start < length samples
   start-inside = facts .inside
@@ -81,7 +57,7 @@ module _ (t samples : List ℕ) (start j : ℕ) (s : List ℕ) (words : ℕ) (h 
         stands : (m : ℕ) → Earlier (suc j) m → Standing m (rowWords (length samples)) s
         stands m e =
             let below : m ≤ j = omega arith in
-            record { some = e .0; room = subst (λ (x : ℕ). m * x ≤ length s) wide (le-trans (mul-le-mul-right words below) (omega (arith, part-end))) }
+            record { some = e .0; room = subst (λ (x : ℕ). m * x ≤ length s) wide (le-trans (mul-le-mul-right words below) (omega (arith, part-end t samples start j s words h facts wide))) }
 
     pub letter-in : (c : Bool) → does op ≡ literally c → (1 ≤ n) × (n ≤ 32)
     letter-in c e = rw er (letter-known (take j t) (suc j) (getD t j 0) formed c (sym e ∙ means))
@@ -131,10 +107,6 @@ module _ (t samples : List ℕ) (start j : ℕ) (s : List ℕ) (words : ℕ) (h 
         ∙ ap₂ (λ (x : Lasso) (y : List Formula). rowsThen x y s) (sym (i .2)) more
 
 -- ---- the turns one after another
-
--- of a scratch its length alone is looked at
-pub fillable-length : {t samples : List ℕ} {start : ℕ} (s u : List ℕ) → length u ≡ length s → Fillable t samples start s → Fillable t samples start u
-fillable-length s u e f = record { accepted = f .accepted; some = f .some; few = f .few; inside = f .inside; room = rw e (f .room) }
 
 module _ (r : Lasso) (t s u : List ℕ) (j : ℕ) (h : j ≤ length t) (e : u ≡ rowsThen r (take j (formulas t)) s) where
   length-first : length (take j (formulas t)) ≡ j

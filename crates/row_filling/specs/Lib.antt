@@ -1,2 +1,2 @@
--- Rows in the scratch.
+-- The operands of a word.
 pub mod Filling

@@ -8,9 +8,9 @@ ghost use Rattle.row_words.specs.Writing.{RowFor};
 use connective_rows::write_connective;
 use row_sweeps::sweep_words;
 use row_tests::everywhere;
-use row_tests::settled;
 use row_words::connective::Connective;
 use rows::write_constant;
+use settled_rows::settled;
 use sweep_values::value_at;
 
 // The least or greatest fixpoint of: g now, or p now and the same at the next position. Its value at the loop start is what comes in

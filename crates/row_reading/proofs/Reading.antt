@@ -11,7 +11,7 @@ use lib.Count.{ones, ones-step, ones-ones, trailingZeros, under}
 use Rattle.logic.specs.Truth.{Sequence}
 use Rattle.row_words.specs.Row.{digit, packBits, rowWords, filled, wordOf, row, countTrue, firstFalse}
 use Rattle.row_words.proofs.Bits.{pack-half, pack-odd, pack-not}
-use Rattle.rows.proofs.Rows.{row-length, row-word}
+use Rattle.row_words.proofs.Rows.{row-length, row-word}
 
 -- ---- the positions that hold
 

@@ -7,10 +7,10 @@ use Rattle.logic.specs.Truth.{Sequence, sweep}
 use Rattle.row_words.specs.Row.{packBits, rowWords, filled, wordOf, wordSweep}
 use Rattle.row_words.proofs.Bits.{pack-ext}
 use Rattle.row_words.proofs.Sweep.{sweep-ext}
-use Rattle.word_steps.specs.Carried.{carriedIn}
+use Rattle.word_carries.specs.Carried.{carriedIn}
 use Rattle.row_sweeps.specs.Carried.{carriedRow}
-use Rattle.word_steps.proofs.Words.{sweep-carried}
-use Rattle.rows.proofs.Rows.{pack-word, sweep-from}
+use Rattle.word_carries.proofs.Carries.{sweep-carried}
+use Rattle.row_words.proofs.Rows.{pack-word, sweep-from}
 
 -- a word before the last one is full
 pub inner-full : (L words w : ℕ) → words ≡ rowWords L → w ≤ words → 0 < w - 1 → 64 ≡ filled L (w - 1 - 1)

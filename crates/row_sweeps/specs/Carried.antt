@@ -2,7 +2,7 @@
 use mathlib.Core.Bool.{Bool}
 use Prim.Native.Nat.{ℕ, _+_, _-_, _*_, _/_, min}
 use Rattle.logic.specs.Truth.{Sequence, sweep}
-use Rattle.word_steps.specs.Carried.{carriedIn}
+use Rattle.word_carries.specs.Carried.{carriedIn}
 
 -- over L positions the last one of each word takes in what the sweep comes to from the next word on
 abbrev pub carriedRow : ℕ → Sequence → Sequence → Bool → Sequence

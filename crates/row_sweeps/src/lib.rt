@@ -8,9 +8,9 @@ ghost use Rattle.row_words.specs.Row as rows;
 ghost use Rattle.row_words.specs.Writing.{RowFor};
 ghost use Rattle.row_sweeps.specs.Carried.{carriedRow};
 use row_words::row_word::filled;
-use word_steps::carried;
+use word_carries::carried;
+use word_carries::first;
 use word_steps::closed;
-use word_steps::first;
 
 // The goals of a sweep with each word's carry taken in, from the last word down; what comes in at the end is given.
 fn carry_words(row: &mut [u64], g: &[u64], p: &[u64], positions: usize, end: bool)

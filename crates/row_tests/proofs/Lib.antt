@@ -1,2 +1,2 @@
--- The rows that need no sweep.
+-- The goal or the keep at every position.
 pub mod Unswept

@@ -2,3 +2,5 @@
 pub mod Bits
 pub mod Sweep
 pub mod Words
+pub mod Rows
+pub mod Compared

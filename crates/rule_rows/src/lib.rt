@@ -45,7 +45,7 @@ pub fn row<'a>(
 {
     match fill(table, samples, start, driven, scratch) {
         Outcome::Refused(why) => {
-            let report = refusals::report_of(why);
+            let report = reports::report_of(why);
             *number = report.0;
             *place = report.1;
             &mut scratch[0..0]

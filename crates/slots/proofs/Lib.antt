@@ -1,4 +1,2 @@
--- A slot's fields, and its operands in turn.
+-- A slot's fields.
 pub mod Fields
-pub mod Arity
-pub mod Turns

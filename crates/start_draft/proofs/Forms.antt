@@ -17,7 +17,7 @@ use Rattle.table.specs.Table.{formulaBy}
 use Rattle.table.proofs.Accepted.{accepted-well-formed}
 use Rattle.table.proofs.Shapes.{shape-unary, shape-binary, shape-letter}
 use Rattle.slots.specs.Slot.{pack}
-use Rattle.draft.specs.Drafted.{Drafted}
+use Rattle.drafts.specs.Drafted.{Drafted}
 use Rattle.source.specs.Source.{Earlier, WordAt}
 use Rattle.source.proofs.Words.{plain-kind}
 use Rattle.automata.specs.Positive.{Positive, atom}
@@ -27,7 +27,8 @@ use Rattle.state_classes.specs.Kept.{wordOf, offset}
 use Rattle.state_slots.proofs.Standing.{Stands, Keeps, keeps-all, keeps-set, keeps-three, drafted-keeps, stored-stands}
 use Rattle.state_slots.proofs.Classes.{joined, classed}
 use Rattle.word_states.specs.declared.Held.{Held}
-use Rattle.word_states.specs.States.{level, shown, Starting}
+use Rattle.class_bits.specs.Levels.{level}
+use Rattle.word_states.specs.States.{shown, Starting}
 use Rattle.word_states.proofs.Smallest.{sigmaClass, piClass, hasSigma, hasPi, every-shown}
 use Rattle.word_states.proofs.Starts.{sigma-bit, pi-bit, sigma-offset, pi-offset, sigma-least, pi-least}
 use Rattle.word_states.proofs.Words.{constant-at, formula-by, kind-by, combined-proper, byte-is, state-stands}

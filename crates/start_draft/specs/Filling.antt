@@ -11,7 +11,7 @@ use Rattle.slots.specs.Slot.{pack}
 use Rattle.automata_laws.specs.StateClass.{every}
 use Rattle.automata_laws.specs.FormulaAutomaton.{combination}
 use Rattle.state_classes.specs.Kept.{wordOf, Kept}
-use Rattle.draft.specs.Drafted.{Drafted}
+use Rattle.drafts.specs.Drafted.{Drafted}
 use Rattle.source.specs.Source.{Inside}
 use Rattle.state_slots.specs.Slots.{classSlots}
 use Rattle.word_states.specs.declared.Held.{Held}

@@ -6,7 +6,7 @@ use mathlib.Core.Bool.{Bool, true, false, cond}
 use mathlib.Core.List.{List}
 use lib.ListN.{length}
 use Rattle.logic.specs.Formula.{Formula, const, bin, disj}
-use Rattle.draft.specs.Drafted.{Drafted}
+use Rattle.drafts.specs.Drafted.{Drafted}
 use Rattle.state_slots.specs.Slots.{classSlots}
 use Rattle.state_slots.proofs.Standing.{Stands, first-drafted, second-drafted, three-drafted, apart-drafted}
 

@@ -9,8 +9,8 @@ use lib.Seq.{getD-set-other}
 use Rattle.logic.specs.Formula.{Formula, const, lit, un, bin}
 use Rattle.table.specs.Node.{unaryKind, binaryKind}
 use Rattle.slots.specs.Slot.{pack}
-use Rattle.draft.specs.Drafted.{SlotIs, Drafted}
-use Rattle.draft.proofs.Drafts.{drafted-below, drafted-set, drafted-within, slot-set}
+use Rattle.drafts.specs.Drafted.{SlotIs, Drafted}
+use Rattle.drafts.proofs.Drafts.{drafted-below, drafted-set, drafted-within, slot-set}
 use Rattle.state_slots.specs.Slots.{three}
 
 -- the slot s stands for a formula over the slots of d below n

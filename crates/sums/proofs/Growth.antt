@@ -6,8 +6,8 @@ use mathlib.Core.Bool.{Bool, false}
 use Rattle.logic.specs.Formula.{Formula, const, lit, un, bin, disj}
 use Rattle.transforms.specs.Folding.{Fold, stands, byConstant, onLeft, onRight, foldBinary}
 use Rattle.table.specs.Node.{pack, binaryKind}
-use Rattle.table.specs.Numbering.{put, constantWord, build}
-use Rattle.numbering.proofs.Building.{Grows, grows-trans, put-grows, build-grows, build-const, build-bin}
+use Rattle.table.specs.Numbering.{put, build}
+use Rattle.numbering.proofs.Building.{Grows, grows-trans, put-grows, build-grows, build-bin}
 use Rattle.placing.specs.State.{State, written, Numbered, Placing, Putting}
 use Rattle.placing.proofs.Placing.{placing-written, placing-answer, placing-full, placing-grows, placing-reached, placing-on, build-positive}
 use Rattle.sums.specs.declared.Sum.{Sum}
@@ -93,8 +93,3 @@ module _ (φ : Formula) (st : Standing φ) {s : State} where
 -- the same sums under other names
 pub grown-as : {g : Formula → Formula} {s e : State} {a b r q : Sum} → a ≡ b → r ≡ q → Grown g s e b q → Grown g s e a r
 grown-as {g} {s} {e} x y h = subst₂ (λ (a r : Sum). Grown g s e a r) (sym x) (sym y) h
-
--- what a sum of all parts comes to
-pub close-nothing : {s₀ s e : State} {w r : ℕ} (χ : Formula) → Summed s₀ s χ Nothing → w ≡ constantWord false → Putting s e (put (written s) w) r → Placing s₀ e (build (written s₀) χ) r
-close-nothing {s₀} {s} {e} {w} {r} χ p z q =
-    rw (p .0, build-const (written s₀) false) (subst (λ (x : State). Placing x e (put (written x) (constantWord false)) r) (p .1) (rw z at (q .placed)))

@@ -4,11 +4,10 @@ use table::kinds;
 ghost use mathlib.Core.Path.{_≡_};
 ghost use Rattle.logic.specs.Formula.{Formula, disj};
 ghost use Rattle.transforms.specs.Folding.{foldBinary};
-ghost use Rattle.draft.specs.Drafted.{Drafted};
-ghost use Rattle.table.specs.Numbering.{build};
-ghost use Rattle.placing.specs.State.{State, state, written, Numbered, Placing};
+ghost use Rattle.drafts.specs.Drafted.{Drafted};
+ghost use Rattle.placing.specs.State.{state};
 ghost use Rattle.parts.specs.Parts.{Numberless};
-ghost use Rattle.sums.specs.Summed.{atOf, Standing, Small, Summed, Grown};
+ghost use Rattle.sums.specs.Summed.{atOf, Standing, Small, Grown};
 
 // No part but false ones so far, of which no word is placed; no room for what there is; or the number of the sum.
 pub enum Sum {
@@ -52,21 +51,5 @@ pub fn join(
             }
             at(put::put(out, index, word::pack(kinds::OR, n, p)))
         }
-    }
-}
-
-// The number of a sum of all parts, 0 where there is no room for it. One of false parts only is the word false.
-pub fn close(sum: Sum, out: &mut [u32], index: &mut [u16]) -> usize
-    requires { ⌜ Numbered (state (now out) (now index)) ⌝ }
-    ensures { λ r. ⌜ ((s₀ : State) (χ : Formula) → Summed s₀ (state (now (out .entry)) (now (index .entry))) χ sum → Placing
-        s₀
-        (state (now (out .exit)) (now (index .exit)))
-        (build (written s₀) χ)
-        r) ⌝ }
-{
-    match sum {
-        Sum::Nothing => put::put(out, index, word::pack(kinds::FALSE, 0, 0)),
-        Sum::Full => 0,
-        Sum::At(n) => n,
     }
 }

@@ -7,7 +7,7 @@ use lib.ListN.{getD}
 use Rattle.logic.specs.Truth.{Sequence}
 use Rattle.row_words.specs.Row.{packBits, filled, row}
 use Rattle.row_words.proofs.Bits.{pack-drop}
-use Rattle.rows.proofs.Rows.{row-pack}
+use Rattle.row_words.proofs.Rows.{row-pack}
 
 -- a word shifted down to position i is what is packed from there to the word's end
 pub word-from : (L : ℕ) (f : Sequence) (r : List ℕ) (i n : ℕ) → r ≡ row L f → i < L → n ≡ filled L (i / 64) - i % 64

@@ -7,7 +7,7 @@ ghost use Rattle.row_words.specs.Row as rows;
 ghost use Rattle.row_words.specs.Writing.{RowFor};
 use row_words::row_word::filled;
 use row_words::row_word::ones;
-use word_steps::first;
+use word_carries::first;
 
 // What a sweep from a position on comes to: word by word upward, as long as p holds to the word's end.
 pub fn value_at(g: &[u64], p: &[u64], positions: usize, from: usize, end: bool) -> bool

@@ -1,13 +1,16 @@
 -- The shapes of the kinds of the operators, and of the words made for them.
-use Prim.Native.Nat.{ℕ, zero, suc, _<_}
+use Prim.Native.Nat.{ℕ, zero, suc, _≤_, _<_}
 use native.Mathlib.Nat.{not-suc-le-zero, le-of-suc-le-suc, eq-or-lt-of-le}
-use mathlib.Core.Path.{_≡_, refl, ap, _∙_}
+use native.Mathlib.Omega.{arith}
+use mathlib.Core.Path.{_≡_, refl, ap, subst, _∙_}
 use mathlib.Core.Bool.{Bool, true, false, cond, _&&_, false≢true}
 use mathlib.Core.Logic.{_⊎_, inl, inr}
+use lib.ListN.{List·getD-eq-default}
 use lib.Dec.{lit<, eqb}
 use borrow.Author.Tests.{eqb-true}
 use Rattle.logic.specs.Formula.{Unary, Binary, next, neg, finally, globally, conj, disj, until, weak, release, strong, implies}
-use Rattle.table.specs.Node.{Shape, none, constant, letter, unary, binary, kind, pack, shape, unaryKind, binaryKind, kindOf}
+use Rattle.logic.proofs.Numbers.{lt-or-le}
+use Rattle.table.specs.Node.{Shape, none, constant, letter, unary, binary, kind, pack, shapes, shape, unaryKind, binaryKind, kindOf}
 use Rattle.table.specs.Numbering.{constantWord, literalWord}
 use Rattle.table.proofs.Fields.{kind-pack}
 
@@ -79,3 +82,20 @@ shape-unaryWord o m h = ap shape (kind-pack (unaryKind o) 0 m (lit< tt) h) ∙ s
 
 pub shape-binaryWord : (o : Binary) (l r : ℕ) → l < 16384 → r < 16384 → shape (kind (pack (binaryKind o) l r)) ≡ binary o
 shape-binaryWord o l r hl hr = ap shape (kind-pack (binaryKind o) l r hl hr) ∙ shape-binary o
+
+-- a kind that stands for something is one of 1 to 15
+abbrev pub Known : Shape → Type 0
+Known none = ⊥
+Known (constant b) = Unit {0}
+Known (letter b) = Unit {0}
+Known (unary o) = Unit {0}
+Known (binary o) = Unit {0}
+
+pub known-kind : (k : ℕ) → Known (shape k) → (0 < k) × (k < 16)
+unfolding shape
+known-kind zero h = absurd h
+known-kind (suc n) h = go (lt-or-le (suc n) 16)
+  where
+    go : (suc n < 16) ⊎ (16 ≤ suc n) → (0 < suc n) × (suc n < 16)
+    go (inl l) = (omega arith, l)
+    go (inr l) = absurd (subst Known (List·getD-eq-default shapes none l) h)

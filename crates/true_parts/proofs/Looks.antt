@@ -15,10 +15,10 @@ use Rattle.transforms.proofs.Normal.TrueParts.{true-part}
 use Rattle.table.specs.Table.{rule}
 use Rattle.table.specs.Steps.{fixpoints}
 use Rattle.slots.specs.Slot.{kind}
-use Rattle.draft.specs.Drafted.{Drafted}
-use Rattle.draft.proofs.Drafts.{drafted-within}
+use Rattle.drafts.specs.Drafted.{Drafted}
+use Rattle.drafts.proofs.Drafts.{drafted-within}
 use Rattle.folding.proofs.Roots.{kind-constant, constant-kind}
-use Rattle.filling.specs.Filled.{Laid}
+use Rattle.choosing.specs.Filled.{Laid}
 use Rattle.parts.specs.Parts.{foldedPart, Ready}
 use Rattle.true_parts.specs.Looked.{openedFold, Opened, Looked}
 

@@ -5,7 +5,7 @@ ghost use Prim.Native.Nat.{_<_};
 ghost use mathlib.Core.Path.{_≡_};
 ghost use lib.ListN.{length};
 ghost use Rattle.table.specs.Steps.{fixpoints};
-ghost use Rattle.filling.specs.Filled.{Laid};
+ghost use Rattle.choosing.specs.Filled.{Laid};
 ghost use Rattle.parts.specs.Parts.{Ready};
 ghost use Rattle.true_parts.specs.Looked.{Opened, Looked};
 
@@ -40,7 +40,7 @@ pub fn opened(
     ensures { λ r. ⌜ Opened (now (table .entry)) choice r ⌝ }
     ensures { λ r. ⌜ Laid (now (table .entry)) (now (draft .exit)) (length (now (table .entry))) ⌝ }
 {
-    filling::choose_words(table, positions, choice, draft);
+    choosing::choose_words(table, positions, choice, draft);
     let last = 5 * table.len() + 4;
     folding::fold(draft, last + 1, folded);
     slot::kind(folded[last]) == kinds::TRUE

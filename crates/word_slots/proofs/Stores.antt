@@ -9,7 +9,8 @@ use lib.Seq.{getD-set-same, getD-set-other}
 use Rattle.table.specs.Node.{left, right}
 use Rattle.form_places.specs.declared.Rewriting.the-variants.{Steady, Recurring, Opening}
 use Rattle.form_places.specs.Places.{place}
-use Rattle.rewriting.specs.Slots.{Rewritten, AlwaysSlot, EitherSlot, OpeningSlot}
+use Rattle.rewriting.specs.Slots.{AlwaysSlot, EitherSlot, OpeningSlot}
+use Rattle.chosen_forms.specs.Rewritten.{Rewritten}
 use Rattle.word_slots.specs.WordSlots.{WordChosen, WordFilled}
 
 abbrev pub two : List ℕ → ℕ → ℕ → ℕ → List ℕ

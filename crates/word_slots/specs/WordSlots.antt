@@ -7,7 +7,8 @@ use lib.ListN.{length, getD}
 use Rattle.table.specs.Node.{left, right}
 use Rattle.form_places.specs.declared.Rewriting.the-variants.{Steady, Recurring, Opening}
 use Rattle.form_places.specs.Places.{place}
-use Rattle.rewriting.specs.Slots.{Rewritten, OpeningSlot, AlwaysSlot, EitherSlot}
+use Rattle.rewriting.specs.Slots.{OpeningSlot, AlwaysSlot, EitherSlot}
+use Rattle.chosen_forms.specs.Rewritten.{Rewritten}
 
 -- the slots of word j lie in the draft
 pub record Inside (j : ℕ) (d : List ℕ) : Type 0 where

@@ -1,9 +1,9 @@
 // The five slots of a word in a choice's draft, and the two of them that ask whether the word is chosen.
+use chosen_forms::recurring;
+use chosen_forms::steady;
 use rewriting::always;
 use rewriting::either;
 use rewriting::opening;
-use rewriting::recurring;
-use rewriting::steady;
 ghost use Rattle.rewriting.specs.Slots as slots;
 ghost use Rattle.word_slots.specs.WordSlots as specs;
 

@@ -19,7 +19,8 @@ use Rattle.automata_tables.specs.States.{isState, stateWords, statesFrom, state
 use Rattle.automata_tables.proofs.States.{words-length}
 use Rattle.state_classes.specs.Kept.{Kept}
 use Rattle.state_slots.proofs.Classes.{given, joined}
-use Rattle.word_states.specs.States.{secondClass, shown}
+use Rattle.class_bits.specs.Levels.{secondClass}
+use Rattle.word_states.specs.States.{shown}
 
 -- ---- the bits
 

@@ -8,7 +8,7 @@ use Rattle.logic.specs.Formula.{Formula}
 use Rattle.logic.specs.ClassByte.{classByte, inΣ₁, inΠ₁, inΣ₂, inΠ₂}
 use Rattle.automata_laws.specs.StateClass.{sigma₁, pi₁, sigma₂, pi₂, isSmallest}
 use Rattle.state_classes.specs.Kept.{offset}
-use Rattle.word_states.specs.States.{level}
+use Rattle.class_bits.specs.Levels.{level}
 use Rattle.word_states.proofs.Smallest.{bit-class, low, sigmaClass, piClass, hasSigma, hasPi}
 
 module _ (φ : Formula) where

@@ -1,21 +1,18 @@
 -- What a class byte, and the number of the states before its word, tell of the word's states.
 use Prim.Native.Nat.{ℕ, _+_, _<_}
 use mathlib.Core.Path.{_≡_}
-use mathlib.Core.Bool.{Bool, false, _||_, cond}
+use mathlib.Core.Bool.{Bool, false, cond}
 use mathlib.Core.List.{List}
 use Rattle.logic.specs.Bit.{bit}
 use Rattle.logic.specs.Formula.{Formula}
 use Rattle.automata.specs.Positive.{Positive, renamed}
-use Rattle.automata_laws.specs.StateClass.{StateClass, sigma₁, pi₁, sigma₂, pi₂, classBit}
+use Rattle.automata_laws.specs.StateClass.{sigma₁, pi₁, classBit}
 use Rattle.automata_laws.specs.FormulaAutomaton.{State}
 use Rattle.automata_tables.specs.States.{numberOf}
 use Rattle.automata_tables.specs.Moves.{asFormula}
+use Rattle.class_bits.specs.Levels.{secondClass, level}
 use Rattle.state_classes.specs.Kept.{offset}
 use Rattle.word_states.specs.declared.Held.{Held}
-
--- a class of the second level
-abbrev pub secondClass : Bool → StateClass
-secondClass upper = cond upper pi₂ sigma₂
 
 -- the numbers fit the field of a slot
 abbrev pub Small : Held → Type 0
@@ -30,11 +27,7 @@ pub record Moving (byte start : ℕ) (upper : Bool) (h : Held) : Type 0 where
   pub second : h .second ≡ start + offset pi₁ byte
   pub third : h .third ≡ start + offset (secondClass upper) byte
 
--- the bit of the Sigma class of the first level that has one of its two classes
-abbrev pub level : ℕ → ℕ
-level byte = cond (bit byte 1 || bit byte 2) 1 4
-
--- those of both classes of that level
+-- those of both classes of its level
 pub record Starting (byte start : ℕ) (h : Held) : Type 0 where
   pub sigma : h .sigma ≡ bit byte (level byte)
   pub pi : h .pi ≡ bit byte (level byte + 1)

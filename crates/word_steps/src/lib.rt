@@ -5,10 +5,8 @@ ghost use Prim.Native.Nat.{ℕ, _+_, _-_, _≤_};
 ghost use Rattle.logic.specs.Truth.{Sequence, sweep, across};
 ghost use Rattle.row_words.specs.Row as rows;
 ghost use Rattle.row_words.specs.Writing.{joins};
-ghost use Rattle.word_steps.specs.Carried.{carriedIn};
 use row_words::connective::Connective;
 use row_words::row_word::ones;
-use std::num::wrapping_add_u64;
 
 // A connective at n positions at once.
 pub fn join(op: Connective, x: u64, y: u64, n: usize) -> u64
@@ -49,29 +47,4 @@ pub fn closed(g: u64, p: u64) -> u64
     let g32 = g16 | (p16 & (g16 >> 16));
     let p32 = p16 & (p16 >> 16);
     g32 | (p32 & (g32 >> 32))
-}
-
-// What a sweep of n positions comes to at the first of them. The lowest bits of p, up to the first one that fails, change when 1 is added;
-// where p fails nowhere, the carry comes through.
-pub fn first(g: u64, p: u64, carry: bool, n: usize) -> bool
-    requires { ⌜ (1 ≤ n) × (n ≤ 64) ⌝ }
-    ensures { λ r. ⌜ ((G P : Sequence) (i : ℕ)
-        → g ≡ rows.packBits G i n
-        → p ≡ rows.packBits P i n
-        → r ≡ sweep G P carry i n) ⌝ }
-{
-    let reached = g & (p ^ wrapping_add_u64(p, 1)) != 0;
-    let kept = p == ones(n);
-    reached | (kept & carry)
-}
-
-// The goal of a backward sweep of n positions with the carry taken in: at the last of them it is as good as the goal, if p holds there.
-pub fn carried(g: u64, p: u64, carry: bool, n: usize) -> u64
-    requires { ⌜ (1 ≤ n) × (n ≤ 64) ⌝ }
-    ensures { λ r. ⌜ ((G P : Sequence) (i : ℕ)
-        → g ≡ rows.packBits G i n
-        → p ≡ rows.packBits P i n
-        → r ≡ rows.packBits (carriedIn G P carry (i + n)) i n) ⌝ }
-{
-    g | (p & ((carry as u64) << (n - 1)))
 }

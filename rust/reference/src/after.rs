@@ -1,13 +1,13 @@
 //! What remains of a rule after a sample (document 02, N12, after source 000's after function), before it is folded (`fold`).
 use crate::forest::{Forest, Node, Tree};
-use crate::map::Map;
+use crate::map::TreeMap;
 
 /// What remains of each of these trees, which are plain, given the letters that hold now; operands come before what is made of them. Nothing
 /// here calls itself: a rule can be 16,383 words deep.
 pub fn after(forest: &mut Forest, trees: &[Tree], holds: impl Fn(usize) -> bool) -> Vec<Tree> {
-    let mut remainders: Map<Tree, Tree> = Map::default();
+    let mut remainders: TreeMap<Tree> = TreeMap::default();
     for &tree in trees {
-        let of = |operand: Tree| remainders[&operand];
+        let of = |operand: Tree| remainders[operand];
         let constant = |holds: bool| if holds { Node::True } else { Node::False };
         let remainder = match forest.node(tree) {
             // a letter or not letter becomes a constant, constants stay
@@ -32,7 +32,7 @@ pub fn after(forest: &mut Forest, trees: &[Tree], holds: impl Fn(usize) -> bool)
         };
         remainders.insert(tree, remainder);
     }
-    trees.iter().map(|tree| remainders[tree]).collect()
+    trees.iter().map(|&tree| remainders[tree]).collect()
 }
 
 #[cfg(test)]

@@ -1,7 +1,7 @@
 //! The alternating automaton of a rule (document 02, N14, after source 002, section 7.2): its states, its start and its moves.
 use crate::class::{Class, Classes, BITS};
 use crate::forest::{Forest, Node, Tree};
-use crate::map::Map;
+use crate::map::{Map, TreeMap};
 
 /// A proper word, which is neither constant, and, nor or, with a smallest one of the classes that hold it.
 #[derive(Clone, Copy, PartialEq, Eq, Hash, Debug)]
@@ -42,7 +42,7 @@ pub struct Automaton {
     trees: Vec<Tree>,
     states: Vec<State>,
     /// Those of each proper word.
-    of_tree: Map<Tree, Vec<State>>,
+    of_tree: TreeMap<Vec<State>>,
     numbers: Map<State, usize>,
 }
 
@@ -56,8 +56,8 @@ impl Automaton {
             held.iter().filter(|&&class| !smaller(class)).map(|&class| State { tree, class }).collect()
         };
         let proper = trees.iter().copied().filter(|&tree| is_proper(forest.node(tree)));
-        let of_tree: Map<Tree, Vec<State>> = proper.clone().map(|tree| (tree, smallest(tree))).collect();
-        let states: Vec<State> = proper.flat_map(|tree| of_tree[&tree].clone()).collect();
+        let of_tree: TreeMap<Vec<State>> = proper.clone().map(|tree| (tree, smallest(tree))).collect();
+        let states: Vec<State> = proper.flat_map(|tree| of_tree[tree].clone()).collect();
         let numbers = states.iter().copied().zip(1..).collect();
         Automaton { trees: trees.to_vec(), states, of_tree, numbers }
     }
@@ -69,18 +69,18 @@ impl Automaton {
 
     /// The states of a proper word whose class is this one or lies within it.
     fn within(&self, tree: Tree, class: Class) -> Vec<State> {
-        self.of_tree[&tree].iter().copied().filter(|state| lies_within(state.class, class)).collect()
+        self.of_tree[tree].iter().copied().filter(|state| lies_within(state.class, class)).collect()
     }
 
     /// The rule's own and, or and constants down to its first proper words, each the or of its states.
     pub fn start(&self, forest: &mut Forest) -> Tree {
-        self.let_down(forest, Class::Delta(2))[self.trees.last().expect("a word")]
+        self.let_down(forest, Class::Delta(2))[*self.trees.last().expect("a word")]
     }
 
     /// Every word that lies in a class, let down: constants stay, and and or go down, and a first proper word stands as the or of its states
     /// whose class is this one or lies within it. A state is a letter with its number.
-    fn let_down(&self, forest: &mut Forest, class: Class) -> Map<Tree, Tree> {
-        let mut down: Map<Tree, Tree> = Map::default();
+    fn let_down(&self, forest: &mut Forest, class: Class) -> TreeMap<Tree> {
+        let mut down: TreeMap<Tree> = TreeMap::default();
         for &tree in &self.trees {
             let node = forest.node(tree);
             let made = if is_proper(node) {
@@ -89,7 +89,9 @@ impl Automaton {
             } else {
                 under(forest, node, &down)
             };
-            down.extend(made.map(|made| (tree, made)));
+            if let Some(made) = made {
+                down.insert(tree, made);
+            }
         }
         down
     }
@@ -103,13 +105,13 @@ impl Automaton {
     pub fn moves(&self, forest: &mut Forest, holds: impl Fn(usize) -> bool) -> Vec<Tree> {
         let down = STATE_CLASSES.map(|class| self.let_down(forest, class));
         // of each word in each class: the or of the moves of its states whose class is that one or lies within it
-        let mut moved: [Map<Tree, Tree>; 4] = Default::default();
+        let mut moved: [TreeMap<Tree>; 4] = Default::default();
         let mut moves: Map<State, Tree> = Map::default();
         let place = |class: Class| STATE_CLASSES.iter().position(|&other| other == class).expect("a class of states");
         for &tree in &self.trees {
             let node = forest.node(tree);
             if is_proper(node) {
-                for &state in &self.of_tree[&tree] {
+                for &state in &self.of_tree[tree] {
                     let at = place(state.class);
                     let itself = self.letter(forest, state);
                     let made = step(forest, node, itself, &down[at], &moved[at], &holds);
@@ -123,7 +125,9 @@ impl Automaton {
                 } else {
                     under(forest, node, &moved[at])
                 };
-                moved[at].extend(made.map(|made| (tree, made)));
+                if let Some(made) = made {
+                    moved[at].insert(tree, made);
+                }
             }
         }
         self.states.iter().map(|state| moves[state]).collect()
@@ -135,32 +139,32 @@ fn step(
     forest: &mut Forest,
     node: Node,
     itself: Tree,
-    down: &Map<Tree, Tree>,
-    moved: &Map<Tree, Tree>,
+    down: &TreeMap<Tree>,
+    moved: &TreeMap<Tree>,
     holds: impl Fn(usize) -> bool,
 ) -> Tree {
     let constant = |holds: bool| if holds { Node::True } else { Node::False };
     match node {
         Node::Letter(n) => forest.grow(constant(holds(n))),
         Node::NotLetter(n) => forest.grow(constant(!holds(n))),
-        Node::Next(a) => down[&a],
+        Node::Next(a) => down[a],
         Node::Until(a, b) | Node::Weak(a, b) => {
-            let both = forest.grow(Node::And(moved[&a], itself));
-            forest.grow(Node::Or(moved[&b], both))
+            let both = forest.grow(Node::And(moved[a], itself));
+            forest.grow(Node::Or(moved[b], both))
         }
         Node::Release(a, b) | Node::Strong(a, b) => {
-            let either = forest.grow(Node::Or(moved[&a], itself));
-            forest.grow(Node::And(moved[&b], either))
+            let either = forest.grow(Node::Or(moved[a], itself));
+            forest.grow(Node::And(moved[b], either))
         }
         _ => panic!("a proper word of a plain rule"),
     }
 }
 
 /// A constant, or an and or or of what its operands became; nothing where one of them became nothing.
-fn under(forest: &mut Forest, node: Node, of: &Map<Tree, Tree>) -> Option<Tree> {
+fn under(forest: &mut Forest, node: Node, of: &TreeMap<Tree>) -> Option<Tree> {
     let node = match node {
-        Node::And(a, b) => Node::And(*of.get(&a)?, *of.get(&b)?),
-        Node::Or(a, b) => Node::Or(*of.get(&a)?, *of.get(&b)?),
+        Node::And(a, b) => Node::And(*of.get(a)?, *of.get(b)?),
+        Node::Or(a, b) => Node::Or(*of.get(a)?, *of.get(b)?),
         constant => constant,
     };
     Some(forest.grow(node))

@@ -1,7 +1,7 @@
 //! Definition 5 of source 002: each class is a set of trees, the least that contains some classes and is closed under some
 //! operators. Document 01 adds that true and false are in class zero.
 use crate::forest::{Forest, Node, Tree};
-use crate::map::{Map, Set};
+use crate::map::TreeSet;
 
 #[derive(Clone, Copy, PartialEq, Eq, Hash, Debug)]
 pub enum Class {
@@ -17,7 +17,8 @@ pub const BITS: [Class; 7] =
 
 #[derive(Default)]
 pub struct Classes {
-    members: Map<Class, Set<Tree>>,
+    /// By the classes' bits.
+    members: [TreeSet; BITS.len()],
 }
 
 impl Classes {
@@ -25,9 +26,9 @@ impl Classes {
     pub fn of(forest: &Forest, trees: &[Tree]) -> Classes {
         let mut classes = Classes::default();
         for &tree in trees {
-            for class in BITS {
+            for (bit, class) in BITS.into_iter().enumerate() {
                 if classes.belongs(forest, class, tree) {
-                    classes.members.entry(class).or_default().insert(tree);
+                    classes.members[bit].insert(tree, ());
                 }
             }
         }
@@ -35,7 +36,8 @@ impl Classes {
     }
 
     pub fn has(&self, class: Class, tree: Tree) -> bool {
-        self.members.get(&class).is_some_and(|set| set.contains(&tree))
+        let bit = BITS.into_iter().position(|other| other == class);
+        self.members[bit.expect("a class that has a bit")].contains(tree)
     }
 
     pub fn byte(&self, tree: Tree) -> u8 {
@@ -45,10 +47,10 @@ impl Classes {
     fn belongs(&self, forest: &Forest, class: Class, tree: Tree) -> bool {
         let below = |i: u32, side: fn(u32) -> Class| if i == 1 { Class::Zero } else { side(i - 1) };
         let contained = match class {
-            Class::Zero => vec![],
-            Class::Sigma(i) => vec![below(i, Class::Pi)],
-            Class::Pi(i) => vec![below(i, Class::Sigma)],
-            Class::Delta(i) => vec![Class::Sigma(i), Class::Pi(i)],
+            Class::Zero => [None, None],
+            Class::Sigma(i) => [Some(below(i, Class::Pi)), None],
+            Class::Pi(i) => [Some(below(i, Class::Sigma)), None],
+            Class::Delta(i) => [Some(Class::Sigma(i)), Some(Class::Pi(i))],
         };
         let all = |operands: &[Tree]| operands.iter().all(|&a| self.has(class, a));
         let sigma = matches!(class, Class::Sigma(_));
@@ -61,6 +63,6 @@ impl Classes {
             Node::Weak(a, b) | Node::Release(a, b) => pi && all(&[a, b]),
             Node::Not(_) | Node::Finally(_) | Node::Globally(_) | Node::Implies(..) => false,
         };
-        closed || contained.iter().any(|&c| self.has(c, tree))
+        closed || contained.into_iter().flatten().any(|c| self.has(c, tree))
     }
 }

@@ -1,17 +1,17 @@
 //! Folding (document 02, N8): a word over a constant is one of its operands where the document says so.
 use crate::forest::{Forest, Node, Tree};
 use crate::listing::needed;
-use crate::map::Map;
+use crate::map::TreeMap;
 
 /// A plain tree folded from its leaves upward. A shared tree is folded once.
 pub fn fold(forest: &mut Forest, root: Tree) -> Tree {
-    let mut folded: Map<Tree, Tree> = Map::default();
+    let mut folded: TreeMap<Tree> = TreeMap::default();
     for tree in needed(forest, root) {
-        let node = forest.node(tree).over(|operand| folded[&operand]);
+        let node = forest.node(tree).over(|operand| folded[operand]);
         let made = make(forest, node);
         folded.insert(tree, made);
     }
-    folded[&root]
+    folded[root]
 }
 
 /// The tree of a node whose operands are folded: the sentence of document 02, clause by clause.

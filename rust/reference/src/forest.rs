@@ -5,6 +5,13 @@ use crate::word::Word;
 #[derive(Clone, Copy, PartialEq, Eq, Hash, PartialOrd, Ord, Debug)]
 pub struct Tree(u32);
 
+impl Tree {
+    /// How many trees its forest had before it.
+    pub fn number(self) -> usize {
+        self.0 as usize
+    }
+}
+
 #[derive(Clone, Copy, PartialEq, Eq, Hash, Debug)]
 pub enum Node {
     False,
@@ -67,7 +74,7 @@ impl Forest {
     }
 
     pub fn node(&self, tree: Tree) -> Node {
-        self.nodes[tree.0 as usize]
+        self.nodes[tree.number()]
     }
 
     /// Every tree, operands first.

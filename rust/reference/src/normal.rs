@@ -1,6 +1,6 @@
 //! The normal form: a part for each choice of until-like words, by three rewritings (document 01, after sections 5 and 6 of 002).
 use crate::forest::{Forest, Node, Tree};
-use crate::map::Map;
+use crate::map::TreeMap;
 use std::cmp::Reverse;
 use std::collections::BTreeSet;
 
@@ -29,7 +29,7 @@ fn in_order(k: usize) -> Vec<u32> {
 pub fn part(forest: &mut Forest, rule: Tree, chosen: &[Tree]) -> Tree {
     let least = |f: &Forest, t: Tree| matches!(f.node(t), Node::Until(..) | Node::Strong(..));
     let (m, n): (Vec<Tree>, Vec<Tree>) = chosen.iter().partition(|&&t| least(forest, t));
-    let mut by = Rewritings { m: m.iter().copied().collect(), n: n.iter().copied().collect(), forest, known: Map::default() };
+    let mut by = Rewritings { m: m.iter().copied().collect(), n: n.iter().copied().collect(), forest, known: Default::default() };
     let mut part = by.rewrite(Form::Opening, rule);
     for member in m {
         let inner = by.rewrite(Form::Recurring, member);
@@ -46,7 +46,7 @@ pub fn part(forest: &mut Forest, rule: Tree, chosen: &[Tree]) -> Tree {
     part
 }
 
-#[derive(Clone, Copy, PartialEq, Eq, Hash)]
+#[derive(Clone, Copy)]
 enum Form {
     Steady,
     Recurring,
@@ -57,12 +57,13 @@ struct Rewritings<'a> {
     forest: &'a mut Forest,
     m: BTreeSet<Tree>,
     n: BTreeSet<Tree>,
-    known: Map<(Form, Tree), Tree>,
+    /// By form.
+    known: [TreeMap<Tree>; 3],
 }
 
 impl Rewritings<'_> {
     fn rewrite(&mut self, form: Form, tree: Tree) -> Tree {
-        if let Some(&known) = self.known.get(&(form, tree)) {
+        if let Some(&known) = self.known[form as usize].get(tree) {
             return known;
         }
         let node = self.forest.node(tree);
@@ -71,7 +72,7 @@ impl Rewritings<'_> {
             Form::Recurring => self.recurring(tree, node),
             Form::Opening => self.opening(node),
         };
-        self.known.insert((form, tree), rewritten);
+        self.known[form as usize].insert(tree, rewritten);
         rewritten
     }
 

@@ -1,20 +1,20 @@
 //! The plain form of a rule and the plain form of its denial, defined through each other.
 use crate::forest::{Forest, Node, Tree};
-use crate::map::Map;
+use crate::map::TreeMap;
 
 pub struct Plain<'a> {
     forest: &'a mut Forest,
-    wanted: Map<Tree, Tree>,
-    denied: Map<Tree, Tree>,
+    wanted: TreeMap<Tree>,
+    denied: TreeMap<Tree>,
 }
 
 impl Plain<'_> {
     pub fn of(forest: &mut Forest, rule: Tree) -> Tree {
-        Plain { forest, wanted: Map::default(), denied: Map::default() }.wanted(rule)
+        Plain { forest, wanted: TreeMap::default(), denied: TreeMap::default() }.wanted(rule)
     }
 
     fn wanted(&mut self, tree: Tree) -> Tree {
-        if let Some(&form) = self.wanted.get(&tree) {
+        if let Some(&form) = self.wanted.get(tree) {
             return form;
         }
         let node = match self.forest.node(tree) {
@@ -43,7 +43,7 @@ impl Plain<'_> {
     }
 
     fn denied(&mut self, tree: Tree) -> Tree {
-        if let Some(&form) = self.denied.get(&tree) {
+        if let Some(&form) = self.denied.get(tree) {
             return form;
         }
         let node = match self.forest.node(tree) {

@@ -1,6 +1,6 @@
 //! Looped recordings, and truth found by walking along one.
 use crate::forest::{Forest, Node, Tree};
-use crate::map::Map;
+use crate::map::TreeMap;
 
 /// Samples, the loop start, and how many letters are driven: letters 1 to that one.
 #[derive(Clone, Copy)]
@@ -95,13 +95,13 @@ impl Recording<'_> {
 /// Truth of trees at every recorded moment.
 pub struct Truth<'a> {
     recording: Recording<'a>,
-    at: Map<Tree, Vec<bool>>,
+    at: TreeMap<Vec<bool>>,
 }
 
 impl<'a> Truth<'a> {
     /// Of these trees; operands come before what is made of them.
     pub fn of(forest: &Forest, trees: &[Tree], recording: Recording<'a>) -> Truth<'a> {
-        let mut truth = Truth { recording, at: Map::default() };
+        let mut truth = Truth { recording, at: TreeMap::default() };
         for &tree in trees {
             let moments = (0..recording.len()).map(|i| truth.holds(forest.node(tree), i)).collect();
             truth.at.insert(tree, moments);
@@ -110,7 +110,7 @@ impl<'a> Truth<'a> {
     }
 
     pub fn row(&self, tree: Tree) -> &[bool] {
-        &self.at[&tree]
+        &self.at[tree]
     }
 
     /// The row as document 01 packs it: moment i is bit (i mod 64) of word i / 64.

@@ -10,7 +10,7 @@ use crate::forest::{Forest, Tree};
 use crate::header::{header, words};
 use crate::limits::Limits;
 use crate::listing::list;
-use crate::map::Map;
+use crate::map::TreeMap;
 use crate::normal::normal as normal_tree;
 use crate::plain::Plain;
 use crate::recording::{Recording, Truth};
@@ -155,8 +155,8 @@ fn automaton(table: &[u32]) -> Result<(Forest, Vec<Tree>, Automaton), Refusal> {
 /// right the table word.
 pub fn state_words(table: &[u32]) -> Result<Vec<Word>, Refusal> {
     let (_, trees, automaton) = automaton(table)?;
-    let numbers: Map<Tree, usize> = trees.into_iter().zip(1..).collect();
-    let word = |state: &State| Word::new(state.accepting().into(), state.bit(), numbers[&state.tree]);
+    let numbers: TreeMap<usize> = trees.into_iter().zip(1..).collect();
+    let word = |state: &State| Word::new(state.accepting().into(), state.bit(), numbers[state.tree]);
     Ok(automaton.states().iter().map(word).collect())
 }
 

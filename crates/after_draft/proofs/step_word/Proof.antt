@@ -7,7 +7,7 @@ use denote.Ref.{now}
 use Rattle.logic.specs.Formula.{conj, disj}
 use Rattle.table.specs.Node.{shape}
 use Rattle.source.specs.Source.{WordAt}
-use Rattle.after_slots.proofs.Constants.{constant-lt}
+use Rattle.sample_letters.proofs.Constants.{constant-lt}
 use Rattle.after_draft.specs.Filling.{Next}
 use Rattle.after_draft.proofs.Forms.{Fixpoint, inside, numbered, plain-at, constant-filled, letter-range, letter-filled, right-unary, next-filled, junction-operands, junction-filled, until-at, release-at, fixpoint-operands, fixpoint-filled}
 use Rattle.after_draft.proofs.step_word.Statement.{statement}

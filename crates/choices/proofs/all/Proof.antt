@@ -4,7 +4,7 @@ use native.Mathlib.Omega.{arith}
 use mathlib.Core.Path.{_≡_, refl, _∙_}
 use lib.ListN.{length}
 use Rattle.placing.specs.State.{state}
-use Rattle.filling.specs.Filled.{Laid}
+use Rattle.choosing.specs.Filled.{Laid}
 use Rattle.true_parts.proofs.Looks.{shifted}
 use Rattle.sums.specs.declared.Sum.the-variants.{Nothing}
 use Rattle.sums.specs.Summed.{Grown}

@@ -4,7 +4,7 @@ use native.Mathlib.Omega.{arith}
 use mathlib.Core.Path.{_≡_, refl, _∙_}
 use lib.ListN.{length}
 use Rattle.placing.specs.State.{state}
-use Rattle.filling.specs.Filled.{Laid}
+use Rattle.choosing.specs.Filled.{Laid}
 use Rattle.sums.specs.Summed.{Grown}
 use Rattle.part_sums.specs.Joining.{joined}
 use Rattle.choices.proofs.ChoiceOrder.{from-top, none-yet, next-grown, all-grown}

@@ -2,7 +2,7 @@ use Prim.Native.Nat.{_-_}
 use native.Mathlib.Omega.{arith}
 use borrow.Author.Needs.{needs}
 use lib.ListN.{length}
-use Rattle.clearing.proofs.Clearing.{Cleared, cleared-none, cleared-more, cleared-all}
+use Rattle.logic.proofs.Slices.{Cleared, cleared-none, cleared-more, cleared-all}
 use Rattle.clearing.proofs.words.Statement.{statement}
 use Rattle.clearing.proofs.words.Tie as tie
 

@@ -7,7 +7,7 @@ use lib.ListN.{length, length-set}
 use Rattle.logic.specs.Truth.{Sequence, across}
 use Rattle.row_words.specs.Row as rows
 use Rattle.row_words.specs.Writing.{joins}
-use Rattle.rows.proofs.Rows.{row-pack, pack-word, written-none, written-last, written-up}
+use Rattle.row_words.proofs.Rows.{row-pack, pack-word, written-none, written-last, written-up}
 use Rattle.connective_rows.proofs.join_words.Statement.{statement}
 use Rattle.connective_rows.proofs.join_words.Tie as tie
 

@@ -5,8 +5,8 @@ use lib.ListN.{length}
 use native.Mathlib.Omega.{arith}
 use mathlib.Core.Path.{refl}
 use Rattle.judging.proofs.LastRow.{some-word, last-small, last-end, last-for, last-row, accepted-answer}
-use Rattle.row_filling.proofs.WordRow.{fillable-length}
-use Rattle.row_filling.specs.Filling.{Fillable}
+use Rattle.table_rows.proofs.Parts.{fillable-length}
+use Rattle.table_rows.specs.Rows.{Fillable}
 use Rattle.evaluation.proofs.judge_accepted.Statement.{statement}
 use Rattle.evaluation.proofs.judge_accepted.Tie as tie
 

@@ -7,8 +7,9 @@ use mathlib.Core.Bool.{true}
 use lib.ListN.{length, length-set}
 use borrow.Author.Needs.{needs}
 use Rattle.table.proofs.Accepted.{accepted-well-formed}
-use Rattle.filling.specs.Filled.{Laid}
-use Rattle.filling.proofs.WordByWord.{word-plain, laid-none, laid-more}
+use Rattle.choosing.specs.Filled.{Laid}
+use Rattle.choosing.proofs.Choosing.{word-plain}
+use Rattle.filling.proofs.WordByWord.{laid-none, laid-more}
 use Rattle.filling.proofs.fill_words.Statement.{statement}
 use Rattle.filling.proofs.fill_words.Tie as tie
 

@@ -6,7 +6,7 @@ use mathlib.Core.Path.{_≡_, refl, ap, _∙_}
 use mathlib.Core.List.{List, _++_}
 use lib.ListN.{length, getD, take, drop, set, length-set}
 use borrow.Author.Needs.{needs}
-use Rattle.clearing.proofs.Copying.{copy-more}
+use Rattle.logic.proofs.Slices.{copy-more}
 use Rattle.headed_copy.proofs.copy.Statement.{statement}
 use Rattle.headed_copy.proofs.copy.Tie as tie
 

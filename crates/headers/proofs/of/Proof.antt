@@ -3,7 +3,7 @@ use native.Mathlib.Omega.{arith}
 use mathlib.Core.Path.{_∙_}
 use Rattle.table.specs.Header.{headerOf}
 use Rattle.table.proofs.Header.{class-lt}
-use Rattle.headers.proofs.Headable.{few}
+use Rattle.header_classes.proofs.Headable.{few}
 use Rattle.headers.proofs.of.Statement.{statement}
 use Rattle.headers.proofs.of.Tie as tie
 

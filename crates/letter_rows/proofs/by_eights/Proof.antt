@@ -6,7 +6,7 @@ use native.Mathlib.Omega.{arith}
 use lib.ListN.{getD}
 use Rattle.logic.specs.Lasso.{letterIn}
 use Rattle.row_words.specs.Row.{packBits}
-use Rattle.letter_rows.proofs.Packed.{pack-append, pack-room}
+use Rattle.letter_bits.proofs.Packed.{pack-append, pack-room}
 use Rattle.letter_rows.proofs.by_eights.Statement.{statement}
 use Rattle.letter_rows.proofs.by_eights.Tie as tie
 

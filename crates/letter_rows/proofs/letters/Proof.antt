@@ -1,6 +1,6 @@
 -- The letter's word, or the word with every bit denied.
 use borrow.Author.Needs.{needs}
-use Rattle.letter_rows.proofs.Packed.{held, denied}
+use Rattle.letter_rows.proofs.Denied.{held, denied}
 use Rattle.letter_rows.proofs.letters.Statement.{statement}
 use Rattle.letter_rows.proofs.letters.Tie as tie
 

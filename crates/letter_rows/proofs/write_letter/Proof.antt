@@ -6,7 +6,7 @@ use native.Mathlib.Omega.{arith}
 use lib.ListN.{length, length-set, getD}
 use Rattle.row_words.specs.Row as rows
 use Rattle.row_words.specs.Writing.{literal}
-use Rattle.rows.proofs.Rows.{pack-word, written-none, written-row, written-up}
+use Rattle.row_words.proofs.Rows.{pack-word, written-none, written-row, written-up}
 use Rattle.letter_rows.proofs.write_letter.Statement.{statement}
 use Rattle.letter_rows.proofs.write_letter.Tie as tie
 

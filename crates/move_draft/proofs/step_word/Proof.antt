@@ -8,7 +8,7 @@ use Rattle.logic.specs.Formula.{conj, disj}
 use Rattle.table.specs.Node.{shape}
 use Rattle.source.specs.Source.{WordAt}
 use Rattle.word_states.specs.States.{Moving}
-use Rattle.after_slots.proofs.Constants.{constant-lt}
+use Rattle.sample_letters.proofs.Constants.{constant-lt}
 use Rattle.move_draft.specs.Filling.{Next}
 use Rattle.move_draft.proofs.Moves.{Fixpoint, until-at, release-at}
 use Rattle.move_draft.proofs.Forms.{inside, numbered, plain-at, constant-filled, letter-range, letter-filled, right-unary, next-filled, junction-operands, junction-filled, fixpoint-operands, fixpoint-filled}

@@ -5,7 +5,7 @@ use mathlib.Core.List.{List}
 use lib.ListN.{length}
 use lib.Count.{ones}
 use borrow.Author.Needs.{needs}
-use Rattle.draft.proofs.Drafts.{drafted-within}
+use Rattle.drafts.proofs.Drafts.{drafted-within}
 use Rattle.parts.specs.Parts.{foldedPart}
 use Rattle.part_sums.proofs.Parts.{part-other, part-joined, part-false, part-full, root-false, root-standing}
 use Rattle.part_sums.proofs.with_part.Statement.{statement}

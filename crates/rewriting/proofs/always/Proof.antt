@@ -1,6 +1,6 @@
 use mathlib.Core.Path.{_∙_}
 use borrow.Author.Needs.{needs}
-use Rattle.rewriting.proofs.Rewritten.{always-weak, always-release}
+use Rattle.rewriting.proofs.Opened.{always-weak, always-release}
 use Rattle.rewriting.proofs.always.Statement.{statement}
 use Rattle.rewriting.proofs.always.Tie as tie
 

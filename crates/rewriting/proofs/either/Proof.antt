@@ -1,6 +1,6 @@
 use mathlib.Core.Path.{_∙_}
 use borrow.Author.Needs.{needs}
-use Rattle.rewriting.proofs.Rewritten.{either-weak, either-release}
+use Rattle.rewriting.proofs.Opened.{either-weak, either-release}
 use Rattle.rewriting.proofs.either.Statement.{statement}
 use Rattle.rewriting.proofs.either.Tie as tie
 

@@ -3,7 +3,7 @@ use borrow.Author.Needs.{needs}
 use mathlib.Core.Path.{ap, _∙_}
 use mathlib.Core.Logic.{inl, inr, ⊎-elim}
 use Rattle.slots.specs.Slot.{pack}
-use Rattle.rewriting.proofs.Rewritten.{others, no-other, opens-constant, opens-letter, opens-next, opens-weak, opens-release, opens-kept}
+use Rattle.rewriting.proofs.Opened.{others, no-other, opens-constant, opens-letter, opens-next, opens-weak, opens-release, opens-kept}
 use Rattle.rewriting.proofs.opening.Statement.{statement}
 use Rattle.rewriting.proofs.opening.Tie as tie
 

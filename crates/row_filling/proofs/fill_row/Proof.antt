@@ -5,7 +5,8 @@ use mathlib.Core.Path.{ap, sym, _∙_}
 use native.Mathlib.Omega.{arith}
 use Rattle.table.specs.Node.{shape}
 use Rattle.operators.specs.Looped.{meaning}
-use Rattle.row_filling.proofs.WordRow.{part-small, part-end, part-for, start-inside, standing, letter-in, row-filled}
+use Rattle.table_rows.proofs.Parts.{part-small, part-end, part-for}
+use Rattle.row_filling.proofs.WordRow.{start-inside, standing, letter-in, row-filled}
 use Rattle.row_filling.proofs.fill_row.Statement.{statement}
 use Rattle.row_filling.proofs.fill_row.Tie as tie
 

@@ -4,9 +4,10 @@ use lib.ListN.{length, take, length-take}
 use lib.Seq.{length-front}
 use mathlib.Core.Path.{_≡_, refl, _∙_}
 use native.Mathlib.Omega.{arith}
-use Rattle.row_filling.proofs.Scratch.{rowsThen-none}
-use Rattle.row_filling.proofs.WordRow.{fillable-length, rows-stand, rows-next, rows-all}
-use Rattle.row_filling.specs.Filling.{lassoOf, rowsThen}
+use Rattle.table_rows.specs.Rows.{lassoOf, rowsThen}
+use Rattle.table_rows.proofs.Rows.{rowsThen-none}
+use Rattle.table_rows.proofs.Parts.{fillable-length}
+use Rattle.row_filling.proofs.WordRow.{rows-stand, rows-next, rows-all}
 use Rattle.table.specs.Table.{formulas}
 use Rattle.row_filling.proofs.fill_rows.Statement.{statement}
 use Rattle.row_filling.proofs.fill_rows.Tie as tie

@@ -4,7 +4,8 @@ use mathlib.Core.Bool.{Bool}
 use Prim.Native.Nat.{_-_}
 use Rattle.logic.specs.Truth.{sweep}
 use Rattle.row_words.specs.Row.{row}
-use Rattle.row_tests.proofs.Unswept.{full-row, settled-row}
+use Rattle.row_tests.proofs.Unswept.{full-row}
+use Rattle.settled_rows.proofs.Stepped.{settled-row}
 use borrow.Author.Needs.{needs}
 use Rattle.row_fixpoints.proofs.write_fixpoint.Statement.{statement}
 use Rattle.row_fixpoints.proofs.write_fixpoint.Tie as tie

@@ -1,7 +1,7 @@
 -- The bit of a position is the value there.
 use native.Mathlib.Omega.{arith}
 use mathlib.Core.Path.{_∙_}
-use Rattle.rows.proofs.Rows.{row-bit}
+use Rattle.row_words.proofs.Rows.{row-bit}
 use borrow.Author.Needs.{needs}
 use Rattle.row_reading.proofs.holds_at.Statement.{statement}
 use Rattle.row_reading.proofs.holds_at.Tie as tie

@@ -8,7 +8,7 @@ use Rattle.logic.specs.Truth.{Sequence, sweep}
 use Rattle.row_words.specs.Row as rows
 use Rattle.row_words.proofs.Sweep.{sweep-done}
 use Rattle.row_sweeps.specs.Carried.{carriedRow}
-use Rattle.rows.proofs.Rows.{row-pack, sweep-from, written-none, written-row, written-down}
+use Rattle.row_words.proofs.Rows.{row-pack, sweep-from, written-none, written-row, written-down}
 use Rattle.row_sweeps.proofs.Sweeps.{inner-full, word-carried}
 use Rattle.row_sweeps.proofs.carry_words.Statement.{statement}
 use Rattle.row_sweeps.proofs.carry_words.Tie as tie

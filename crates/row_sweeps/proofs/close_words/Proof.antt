@@ -8,7 +8,7 @@ use lib.ListN.{length, length-set, getD}
 use lib.Seq.{getD-set-other}
 use Rattle.logic.specs.Truth.{Sequence}
 use Rattle.row_words.specs.Row as rows
-use Rattle.rows.proofs.Rows.{row-length, row-pack, written-none, written-row, written-up}
+use Rattle.row_words.proofs.Rows.{row-length, row-pack, written-none, written-row, written-up}
 use Rattle.row_sweeps.proofs.Sweeps.{word-closed}
 use Rattle.row_sweeps.proofs.close_words.Statement.{statement}
 use Rattle.row_sweeps.proofs.close_words.Tie as tie

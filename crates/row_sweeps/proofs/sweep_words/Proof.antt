@@ -1,7 +1,7 @@
 -- The closing of the goals that have taken in what is carried.
 use borrow.Author.Needs.{needs}
 use mathlib.Core.Path.{_∙_}
-use Rattle.rows.proofs.Rows.{row-ext}
+use Rattle.row_words.proofs.Rows.{row-ext}
 use Rattle.row_sweeps.proofs.Sweeps.{closed-carried}
 use Rattle.row_sweeps.proofs.sweep_words.Statement.{statement}
 use Rattle.row_sweeps.proofs.sweep_words.Tie as tie

@@ -8,7 +8,8 @@ use native.Mathlib.Omega.{arith}
 use lib.ListN.{length, getD}
 use lib.Bits.{bitOr}
 use Rattle.row_words.specs.Row as rows
-use Rattle.row_tests.proofs.Unswept.{Tells, tells-none, tells-next, rows-told, full-word, ones-word}
+use Rattle.row_words.proofs.Compared.{Tells, tells-none, tells-next, rows-told}
+use Rattle.row_tests.proofs.Unswept.{full-word, ones-word}
 use Rattle.row_tests.proofs.everywhere.Statement.{statement}
 use Rattle.row_tests.proofs.everywhere.Tie as tie
 

@@ -6,7 +6,7 @@ use native.Mathlib.Omega.{arith}
 use lib.ListN.{length, length-set}
 use Rattle.logic.specs.Truth.{Sequence}
 use Rattle.row_words.specs.Row as rows
-use Rattle.rows.proofs.Rows.{inner-next, last-next, written-none, written-last, written-up}
+use Rattle.row_words.proofs.Rows.{inner-next, last-next, written-none, written-last, written-up}
 use Rattle.rows.proofs.shift_words.Statement.{statement}
 use Rattle.rows.proofs.shift_words.Tie as tie
 

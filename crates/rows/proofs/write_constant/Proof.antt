@@ -5,7 +5,7 @@ use Prim.Native.Nat.{_≤_, _-_, _*_}
 use native.Mathlib.Omega.{arith}
 use lib.ListN.{length, length-set}
 use Rattle.row_words.specs.Row as rows
-use Rattle.rows.proofs.Rows.{pack-word, written-none, written-last, written-up}
+use Rattle.row_words.proofs.Rows.{pack-word, written-none, written-last, written-up}
 use Rattle.rows.proofs.write_constant.Statement.{statement}
 use Rattle.rows.proofs.write_constant.Tie as tie
 

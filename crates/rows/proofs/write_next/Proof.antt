@@ -4,7 +4,7 @@ use mathlib.Core.Path.{_∙_, ap}
 use mathlib.Core.Bool.{Bool}
 use native.Mathlib.Omega.{arith}
 use Rattle.row_words.specs.Row as rows
-use Rattle.rows.proofs.Rows.{row-bit}
+use Rattle.row_words.proofs.Rows.{row-bit}
 use Rattle.rows.proofs.write_next.Statement.{statement}
 use Rattle.rows.proofs.write_next.Tie as tie
 

@@ -7,10 +7,10 @@ use native.Mathlib.Omega.{arith}
 use mathlib.Core.List.{List}
 use denote.Ref.{now}
 use Rattle.judging.proofs.LastRow.{words-before, last-small, last-end, last-row, accepted-scratch, accepted-part, refused-part, accepted-at, refused-at}
-use Rattle.row_filling.proofs.WordRow.{fillable-length}
+use Rattle.table_rows.proofs.Parts.{fillable-length}
 use Rattle.judging.proofs.Accepted.{accepted-facts, accepted-fillable, accepted-words}
 use Rattle.table.specs.Header.{body}
-use Rattle.row_filling.specs.Filling.{Fillable}
+use Rattle.table_rows.specs.Rows.{Fillable}
 use Rattle.judging.specs.Judging.{rowOutcome}
 use Rattle.refusals.specs.declared.Report.{Report}
 use Rattle.refusals.specs.Refusals.{outcomeReport, outcomeNumber, outcomePlace}

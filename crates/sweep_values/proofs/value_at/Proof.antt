@@ -8,8 +8,8 @@ use borrow.Author.Tests.{eq-eqb, ne-eqb}
 use Rattle.logic.specs.Truth.{Sequence, sweep}
 use Rattle.row_words.specs.Row as rows
 use Rattle.row_words.proofs.Sweep.{sweep-done}
-use Rattle.word_steps.proofs.Words.{kept-law}
-use Rattle.rows.proofs.Rows.{goal-reached, keep-failed, word-passed}
+use Rattle.word_carries.proofs.Carries.{kept-law}
+use Rattle.row_words.proofs.Rows.{goal-reached, keep-failed, word-passed}
 use Rattle.sweep_values.proofs.Shifted.{word-from}
 use Rattle.sweep_values.proofs.value_at.Statement.{statement}
 use Rattle.sweep_values.proofs.value_at.Tie as tie

@@ -13,7 +13,7 @@ use Rattle.table.specs.declared.settings.Limits.{Limits}
 use Rattle.table.specs.Limits.{isPermitted}
 use Rattle.table.specs.Numbering.{tableOf}
 use Rattle.table.proofs.Stated.{permitted, limits-outside, limits-within}
-use Rattle.headers.specs.Headable.{Headable}
+use Rattle.header_classes.specs.Headable.{Headable}
 use Rattle.grammar.specs.Reader.{readingOf}
 use Rattle.grammar.proofs.Sound.{sound}
 use Rattle.text.proofs.Outcomes.{fresh, outcome-outside, outcome-long, outcome-departs, outcome-many, outcome-given, counted, copied}

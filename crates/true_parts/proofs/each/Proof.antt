@@ -5,8 +5,8 @@ use mathlib.Core.Path.{_≡_, refl, sym, _∙_}
 use mathlib.Core.List.{List}
 use lib.ListN.{length}
 use borrow.Author.Needs.{needs}
-use Rattle.draft.proofs.Drafts.{drafted-within}
-use Rattle.filling.specs.Filled.{Laid}
+use Rattle.drafts.proofs.Drafts.{drafted-within}
+use Rattle.choosing.specs.Filled.{Laid}
 use Rattle.parts.specs.Parts.{foldedPart}
 use Rattle.true_parts.proofs.Looks.{shifted, Untrue, ready-again, found, untrue-next, none-found}
 use Rattle.true_parts.proofs.each.Statement.{statement}

@@ -5,8 +5,8 @@ use mathlib.Core.Path.{refl, ap, ap₂, _∙_}
 use lib.ListN.{getD}
 use Rattle.logic.specs.ClassStep.{nextByte}
 use Rattle.table.specs.Node.{kind, shape}
-use Rattle.operator_bytes.specs.declared.kind.PlainKind.the-variants as kinds
-use Rattle.operator_bytes.specs.PlainKind.{operatorByte, Stands}
+use Rattle.plain_kinds.specs.declared.PlainKind.the-variants as kinds
+use Rattle.plain_kinds.specs.PlainKind.{operatorByte, Stands}
 use Rattle.class_bytes.proofs.Words.{left-operand, right-operand, byte-by-kind}
 use borrow.Author.Needs.{needs}
 use Rattle.class_bytes.proofs.fill.byte_at.Statement.{statement}

@@ -8,7 +8,7 @@ use borrow.Author.Needs.{needs}
 use lib.ListN.{length, take, drop, set, length-set}
 use lib.Seq.{take-at, take-all, length-take-le}
 use Rattle.table.specs.Steps.{classBytes}
-use Rattle.clearing.proofs.Copying.{copy-more}
+use Rattle.logic.proofs.Slices.{copy-more}
 use Rattle.class_bytes.proofs.Words.{length-classBytes}
 use Rattle.class_bytes.proofs.fill.fill.Statement.{statement}
 use Rattle.class_bytes.proofs.fill.fill.Tie as tie

@@ -1,2 +1,0 @@
--- What a letter becomes by a sample.
-pub mod Constants

@@ -1,0 +1,2 @@
+-- The words of a choice, chosen one after the other.
+pub mod Choosing

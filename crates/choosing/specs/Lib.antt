@@ -1,0 +1,2 @@
+-- A choice's draft: the slots of all words.
+pub mod Filled

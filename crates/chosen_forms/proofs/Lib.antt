@@ -1,0 +1,2 @@
+-- The slots of a word's steady and recurring forms.
+pub mod Rewritten

@@ -1,0 +1,2 @@
+-- The levels of the classes.
+pub mod Levels

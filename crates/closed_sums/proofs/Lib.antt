@@ -1,0 +1,2 @@
+-- The law of a sum of all parts.
+pub mod Closing

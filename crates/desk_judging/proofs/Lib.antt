@@ -1,0 +1,2 @@
+-- What walks by hand have in common.
+pub mod Walking

@@ -1,0 +1,7 @@
+-- The laws of numbering a draft.
+pub mod Next
+pub mod Steps
+pub mod Zeros
+pub mod Remembering
+pub mod Going
+pub mod Fresh

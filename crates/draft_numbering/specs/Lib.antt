@@ -1,0 +1,2 @@
+-- The table that is made of a draft.
+pub mod Numberable

@@ -1,0 +1,3 @@
+-- The laws of drafts.
+pub mod Drafts
+pub mod Growth

@@ -1,0 +1,2 @@
+-- What a slot of a draft stands for.
+pub mod Drafted

@@ -1,2 +1,0 @@
--- A choice's draft: the forms of all words.
-pub mod Filled

@@ -1,0 +1,2 @@
+-- Which words are fixpoints of a kind.
+pub mod Picked

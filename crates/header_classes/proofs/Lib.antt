@@ -1,0 +1,2 @@
+-- Laws of the class of words.
+pub mod Headable

@@ -1,0 +1,2 @@
+-- What the class of words is asked with.
+pub mod Headable

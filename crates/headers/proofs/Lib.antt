@@ -1,2 +1,0 @@
--- Laws of the header of words.
-pub mod Headable

@@ -1,2 +1,0 @@
--- What the header of words is asked with.
-pub mod Headable

@@ -1,0 +1,2 @@
+-- The laws of adding a word to an index.
+pub mod Adding

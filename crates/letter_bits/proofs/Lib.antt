@@ -1,0 +1,2 @@
+-- Positions packed into a word.
+pub mod Packed

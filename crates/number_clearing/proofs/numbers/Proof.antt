@@ -1,0 +1,22 @@
+use Prim.Native.Nat.{_-_}
+use native.Mathlib.Omega.{arith}
+use borrow.Author.Needs.{needs}
+use lib.ListN.{length}
+use Rattle.logic.proofs.Slices.{Cleared, cleared-none, cleared-more, cleared-all}
+use Rattle.number_clearing.proofs.numbers.Statement.{statement}
+use Rattle.number_clearing.proofs.numbers.Tie as tie
+
+pub numbers-spec : {M : Type 1} → statement M
+numbers-spec =
+    tie.close
+    (tie.spec
+    (λ d _ e i. Cleared d i e)
+    (λ d _ e i. length d - i)
+    (λ c. cleared-none _)
+    (λ c. search needs)
+    (λ c. search needs)
+    (λ c. search needs)
+    (λ c. search needs)
+    (λ c. cleared-more (c .before .loop .inv) (omega arith))
+    (λ c. search needs)
+    (λ c. cleared-all (c .before .loop .inv) (omega arith)))

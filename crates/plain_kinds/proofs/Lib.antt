@@ -1,0 +1,2 @@
+-- What the shapes of plain tables stand for.
+pub mod Shapes

@@ -1,0 +1,2 @@
+-- The forms of a table's words.
+pub mod Forms

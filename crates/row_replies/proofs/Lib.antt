@@ -1,0 +1,2 @@
+-- The row call's reply.
+pub mod Replied

@@ -1,2 +1,0 @@
--- The laws of rows.
-pub mod Rows

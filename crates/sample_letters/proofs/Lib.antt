@@ -1,0 +1,2 @@
+-- Laws of what a letter becomes by a sample.
+pub mod Constants

@@ -1,0 +1,2 @@
+-- What a letter becomes by a sample.
+pub mod Constant

@@ -1,0 +1,2 @@
+-- One step that leaves every position as it is.
+pub mod Stepped

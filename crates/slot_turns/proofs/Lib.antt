@@ -1,0 +1,3 @@
+-- A slot's operands in turn.
+pub mod Arity
+pub mod Turns

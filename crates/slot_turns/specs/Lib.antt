@@ -1,0 +1,2 @@
+-- What numbering needs of a slot next.
+pub mod Turn

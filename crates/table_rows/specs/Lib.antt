@@ -1,0 +1,2 @@
+-- Rows in the scratch.
+pub mod Rows

@@ -1,0 +1,2 @@
+-- Which words name a letter that is not driven.
+pub mod LetterKinds

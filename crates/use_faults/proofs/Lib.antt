@@ -1,0 +1,2 @@
+-- The laws of the checks of uses.
+pub mod Uses

@@ -1,0 +1,2 @@
+-- What the marks of operands say.
+pub mod Marks

@@ -1,0 +1,2 @@
+-- The laws of what a sweep carries.
+pub mod Carries
