@@ -15,17 +15,17 @@ pub fn plain(number: u32, place: usize, words: usize, result: &[u32; 520]) {
     sum::plain(result);
 }
 
-// A form: which slice it is in, before the sums.
+// A form: whether it is its source, before the sums.
 pub fn form(number: u32, place: usize, words: usize, own: bool) {
     show::answer(number, place);
     show::number(words);
-    show::one_of(own, b", source", b", result");
+    show::flag(own);
 }
 
 // A judgement, before its tally.
 pub fn judgement(number: u32, place: usize, holds: bool, moments: usize, failing: usize) {
     show::answer(number, place);
-    show::one_of(holds, b", holds", b", fails");
+    show::flag(holds);
     show::number(moments);
     show::number(failing);
 }
@@ -41,6 +41,6 @@ pub fn row(number: u32, place: usize, from: usize, words: usize, scratch: &[u64;
 // Two recordings held against each other.
 pub fn comparison(number: u32, place: usize, same: bool, moment: usize) {
     show::answer(number, place);
-    show::one_of(same, b", same", b", not the same");
+    show::flag(same);
     show::number(moment);
 }

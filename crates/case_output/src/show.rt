@@ -1,36 +1,28 @@
-// How the runner prints.
-pub fn text(s: &[u8]) {
-    io::write_all(1, s);
-}
-
-// The first if it is so, else the second.
-pub fn one_of(so: bool, yes: &[u8], no: &[u8]) {
-    if so {
-        text(yes);
-    } else {
-        text(no);
-    }
-}
-
-pub fn number(n: usize) {
-    text(b", ");
+// A line of numbers in decimal, a space before each but the first.
+pub fn first(n: u32) {
     io::print_decimal(1, n as u64);
 }
 
-// "N at P"
-pub fn answer(number: u32, place: usize) {
-    io::print_decimal(1, number as u64);
-    text(b" at ");
-    io::print_decimal(1, place as u64);
+pub fn number(n: usize) {
+    io::write_all(1, b" ");
+    io::print_decimal(1, n as u64);
 }
 
-// A sum in eight hexadecimal digits.
-pub fn sum(x: u32) {
-    let line = listing::line(x);
-    text(b", ");
-    text(&line[0..8]);
+// 1 if it is so, else 0.
+pub fn flag(so: bool) {
+    if so {
+        number(1);
+    } else {
+        number(0);
+    }
+}
+
+// A refusal's number and place.
+pub fn answer(refusal: u32, place: usize) {
+    number(refusal as usize);
+    number(place);
 }
 
 pub fn end() {
-    text(b"\n");
+    io::write_all(1, b"\n");
 }

@@ -17,53 +17,53 @@ fn halves(w: u64) -> u64 {
     w % 4294967296 * 3 + w / 4294967296
 }
 
-fn of_words(s: &[u32]) -> u32 {
+fn of_words(s: &[u32]) -> usize {
     let mut x: u64 = 0;
     let mut i: usize = 0;
     while i < s.len() {
         x = added(x, wide_word(s[i]));
         i += 1;
     }
-    (x % 4294967296) as u32
+    x as usize
 }
 
-fn of_bytes(s: &[u8]) -> u32 {
+fn of_bytes(s: &[u8]) -> usize {
     let mut x: u64 = 0;
     let mut i: usize = 0;
     while i < s.len() {
         x = added(x, wide(s[i]));
         i += 1;
     }
-    (x % 4294967296) as u32
+    x as usize
 }
 
-fn of_rows(s: &[u64]) -> u32 {
+fn of_rows(s: &[u64]) -> usize {
     let mut x: u64 = 0;
     let mut i: usize = 0;
     while i < s.len() {
         x = added(x, halves(s[i]));
         i += 1;
     }
-    (x % 4294967296) as u32
+    x as usize
 }
 
 // The sums of the runner's lent memory, printed.
 pub fn bytes(s: &[u8; 16400]) {
     let all: &[u8] = s;
-    crate::show::sum(of_bytes(all));
+    crate::show::number(of_bytes(all));
 }
 
 pub fn plain(s: &[u32; 520]) {
     let all: &[u32] = s;
-    crate::show::sum(of_words(all));
+    crate::show::number(of_words(all));
 }
 
 pub fn form(s: &[u32; 16400]) {
     let all: &[u32] = s;
-    crate::show::sum(of_words(all));
+    crate::show::number(of_words(all));
 }
 
 pub fn scratch(s: &[u64; 2100]) {
     let all: &[u64] = s;
-    crate::show::sum(of_rows(all));
+    crate::show::number(of_rows(all));
 }

@@ -15,6 +15,7 @@ fn tally_of(c: Case) -> Tally {
 // What a number stands in place of, in some steps, is said with Case.
 fn call<'t>(c: Case, table: &'t [u32], samples: &'t [u32]) {
     let step = c.step;
+    show::first(step);
     match step {
         1 => table_steps::check(table, c.plain, c.limit),
         2 => table_steps::classify(table, c.room),

@@ -5,26 +5,26 @@ pub struct Arguments {
     pub known: bool,
 }
 
-fn is_text(a: &[u8]) -> bool {
-    if a.len() != 4 {
+fn same(a: &[u8], b: &[u8]) -> bool {
+    if a.len() != b.len() {
         return false;
     }
-    a[0] == b't' && a[1] == b'e' && a[2] == b'x' && a[3] == b't'
-}
-
-fn is_as_text(a: &[u8]) -> bool {
-    if a.len() != 7 {
-        return false;
+    let mut i: usize = 0;
+    while i < a.len() {
+        if a[i] != b[i] {
+            return false;
+        }
+        i += 1;
     }
-    a[0] == b'a' && a[1] == b's' && a[2] == b'-' && is_text(&a[3..7])
+    true
 }
 
 // Argument i, beside what is known of those before it. One that is longer than both is answered as empty, which is neither.
 fn with(before: Arguments, i: usize) -> Arguments {
     let mut bytes = [0u8; 8];
     let n = os::arg(i, &mut bytes);
-    let text = is_text(&bytes[..n]);
-    let as_text = is_as_text(&bytes[..n]);
+    let text = same(&bytes[..n], b"text");
+    let as_text = same(&bytes[..n], b"as-text");
     Arguments {
         text: before.text || text,
         as_text: before.as_text || as_text,

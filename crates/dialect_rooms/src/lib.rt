@@ -9,7 +9,7 @@ pub fn of_64(table: &[u32], result: &mut [u32]) -> usize
 {
     let mut draft = [0u64; 130];
     dialect_draft::fill(table, &mut draft);
-    number_rooms::of_130(&draft, 2 * table.len() + 1, result)
+    number_rooms::of_195(&draft, 2 * table.len() + 1, result)
 }
 
 pub fn of_512(table: &[u32], result: &mut [u32]) -> usize
@@ -18,7 +18,7 @@ pub fn of_512(table: &[u32], result: &mut [u32]) -> usize
 {
     let mut draft = [0u64; 1026];
     dialect_draft::fill(table, &mut draft);
-    number_rooms::of_1026(&draft, 2 * table.len() + 1, result)
+    number_rooms::of_1539(&draft, 2 * table.len() + 1, result)
 }
 
 pub fn of_16383(table: &[u32], result: &mut [u32]) -> usize

@@ -22,8 +22,8 @@ fresh n m out h k = record {
   none = getD-zeros m 0;
 }
 
--- a draft of as many slots can be numbered in them, from any slot that stands for a formula
-pub fresh-numberable : {d e numbers stack : List ℕ} {s : State} {root : ℕ} (φ : Formula) → length d ≤ 1048576 → length e ≡ length d → Drafted e φ root
+-- a draft of no more slots can be numbered in them, from any slot that stands for a formula
+pub fresh-numberable : {d e numbers stack : List ℕ} {s : State} {root : ℕ} (φ : Formula) → length d ≤ 1048576 → length e ≤ length d → Drafted e φ root
     → Fresh d numbers stack s → Numbered s × Numberable e root numbers stack (written s)
 fresh-numberable φ few same drafted g = (
   g .numbered,

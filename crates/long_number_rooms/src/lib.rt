@@ -11,16 +11,6 @@ pub fn of_3591(draft: &[u64], root: usize, result: &mut [u32]) -> usize
     draft_numbering::number(draft, root, &mut numbers, &mut stack, result, &mut index)
 }
 
-pub fn of_28679(draft: &[u64], root: usize, result: &mut [u32]) -> usize
-    requires { ⌜ Asked 28679 (now draft) root (now result) ⌝ }
-    ensures { λ r. ⌜ Made (now (draft .entry)) root (now (result .entry)) (now (result .exit)) r ⌝ }
-{
-    let mut numbers = [0u16; 28679];
-    let mut stack = [0u32; 28679];
-    let mut index = [0u16; 32768];
-    draft_numbering::number(draft, root, &mut numbers, &mut stack, result, &mut index)
-}
-
 pub fn of_32768(draft: &[u64], root: usize, result: &mut [u32]) -> usize
     requires { ⌜ Asked 32768 (now draft) root (now result) ⌝ }
     ensures { λ r. ⌜ Made (now (draft .entry)) root (now (result .entry)) (now (result .exit)) r ⌝ }

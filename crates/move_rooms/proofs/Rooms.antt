@@ -1,7 +1,7 @@
 -- What drafting a move is asked with, in a room of a size, and what numbering it writes.
 use Prim.Native.Nat.{ℕ, _+_, _*_, _≤_, _<_}
 use native.Mathlib.Omega.{arith}
-use mathlib.Core.Path.{_≡_, refl, sym}
+use mathlib.Core.Path.{_≡_, refl}
 use mathlib.Core.List.{List}
 use lib.ListN.{length}
 use Rattle.logic.specs.Formula.{Formula}
@@ -18,7 +18,7 @@ module _ (most n : ℕ) {t out : List ℕ} (q : Asked most t out) where
   room-for long slots h = (omega (arith, q .few), omega arith)
 
   pub to-number : {d : List ℕ} {root : ℕ} (φ : Formula) → Drafted d φ root → n ≡ length d → 7 * most + 7 ≤ n → numbers.Asked n d root out
-  to-number φ f long slots = record { formula = φ; drafted = f; long = sym long; lent = omega (arith, q .few, q .lent) }
+  to-number φ f long slots = record { formula = φ; drafted = f; long = omega (arith, long); lent = omega (arith, q .few, q .lent) }
 
   pub moved : {bytes starts d made : List ℕ} {s w bit v root r : ℕ} → Drawn t bytes starts s w bit → Drafted d (asFormula (writtenAt t s v)) root × (root < 7 * length t + 7) → n ≡ length d → n ≤ 1048576
       → numbers.Made d root out made r → Moved t s v out made r

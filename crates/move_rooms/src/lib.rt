@@ -18,7 +18,7 @@ pub fn of_64(
 {
     let mut draft = [0u64; 455];
     let root = move_roots::fill(words, bytes, starts, sample, state, word, class, &mut draft);
-    number_rooms::of_455(&draft, root, result)
+    number_rooms::of_514(&draft, root, result)
 }
 
 pub fn of_512(
@@ -56,7 +56,7 @@ pub fn of_4096(
 {
     let mut draft = [0u64; 28679];
     let root = move_roots::fill(words, bytes, starts, sample, state, word, class, &mut draft);
-    long_number_rooms::of_28679(&draft, root, result)
+    long_number_rooms::of_32768(&draft, root, result)
 }
 
 pub fn of_16383(

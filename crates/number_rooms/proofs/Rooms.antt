@@ -20,6 +20,10 @@ zeros-long n = sym (length-replicate {A = ℕ} n 0)
 pub still-long : (n : ℕ) {k : ℕ} → k ≡ length (replicate {A = ℕ} n 0) → n ≡ k
 still-long n same = zeros-long n ∙ sym same
 
+-- a larger room does as well
+pub asked-larger : {n m : ℕ} {d out : List ℕ} {root : ℕ} → Asked n d root out → n ≤ m → Asked m d root out
+asked-larger q h = record { formula = q .formula; drafted = q .drafted; long = omega (arith, q .long, h); lent = omega (arith, q .lent, h) }
+
 pub numberable : (n m : ℕ) {d out : List ℕ} {root : ℕ} → Asked n d root out → n ≤ 1048576 → room n < m / 2 → m ≤ 32768
     → Numbered (state out (replicate m 0)) × Numberable d root (replicate n 0) (replicate n 0) (written (state out (replicate m 0)))
 numberable n m {d} {out} q few places most =

@@ -9,11 +9,11 @@ use Rattle.table.specs.Numbering.{tableOf}
 use Rattle.placing.specs.Written.{Written}
 use Rattle.drafts.specs.Drafted.{Drafted}
 
--- a draft of so many slots, whose root stands for a formula, and a slice of no more words
+-- a draft of at most so many slots, whose root stands for a formula, and a slice of no more words
 pub record Asked (slots : ℕ) (d : List ℕ) (root : ℕ) (out : List ℕ) : Type 0 where
   pub formula : Formula
   pub drafted : Drafted d formula root
-  pub long : length d ≡ slots
+  pub long : length d ≤ slots
   pub lent : length out ≤ slots
 
 -- the table of the root's formula is written

@@ -1,17 +1,7 @@
 // A draft numbered from no words, with numbers, a stack and an index of the size that it needs: short drafts pay for no more.
 ghost use Rattle.number_rooms.specs.Rooms.{Asked, Made};
 
-// Each room is named by the slots of its drafts. The table of the root's formula at the front of the result, and its length; 0 where it does not fit.
-pub fn of_130(draft: &[u64], root: usize, result: &mut [u32]) -> usize
-    requires { ⌜ Asked 130 (now draft) root (now result) ⌝ }
-    ensures { λ r. ⌜ Made (now (draft .entry)) root (now (result .entry)) (now (result .exit)) r ⌝ }
-{
-    let mut numbers = [0u16; 130];
-    let mut stack = [0u32; 130];
-    let mut index = [0u16; 262];
-    draft_numbering::number(draft, root, &mut numbers, &mut stack, result, &mut index)
-}
-
+// Each room is named by the slots of its longest draft. The table of the root's formula at the front of the result, and its length; 0 where it does not fit.
 pub fn of_195(draft: &[u64], root: usize, result: &mut [u32]) -> usize
     requires { ⌜ Asked 195 (now draft) root (now result) ⌝ }
     ensures { λ r. ⌜ Made (now (draft .entry)) root (now (result .entry)) (now (result .exit)) r ⌝ }
@@ -22,16 +12,6 @@ pub fn of_195(draft: &[u64], root: usize, result: &mut [u32]) -> usize
     draft_numbering::number(draft, root, &mut numbers, &mut stack, result, &mut index)
 }
 
-pub fn of_455(draft: &[u64], root: usize, result: &mut [u32]) -> usize
-    requires { ⌜ Asked 455 (now draft) root (now result) ⌝ }
-    ensures { λ r. ⌜ Made (now (draft .entry)) root (now (result .entry)) (now (result .exit)) r ⌝ }
-{
-    let mut numbers = [0u16; 455];
-    let mut stack = [0u32; 455];
-    let mut index = [0u16; 912];
-    draft_numbering::number(draft, root, &mut numbers, &mut stack, result, &mut index)
-}
-
 pub fn of_514(draft: &[u64], root: usize, result: &mut [u32]) -> usize
     requires { ⌜ Asked 514 (now draft) root (now result) ⌝ }
     ensures { λ r. ⌜ Made (now (draft .entry)) root (now (result .entry)) (now (result .exit)) r ⌝ }
@@ -39,16 +19,6 @@ pub fn of_514(draft: &[u64], root: usize, result: &mut [u32]) -> usize
     let mut numbers = [0u16; 514];
     let mut stack = [0u32; 514];
     let mut index = [0u16; 1030];
-    draft_numbering::number(draft, root, &mut numbers, &mut stack, result, &mut index)
-}
-
-pub fn of_1026(draft: &[u64], root: usize, result: &mut [u32]) -> usize
-    requires { ⌜ Asked 1026 (now draft) root (now result) ⌝ }
-    ensures { λ r. ⌜ Made (now (draft .entry)) root (now (result .entry)) (now (result .exit)) r ⌝ }
-{
-    let mut numbers = [0u16; 1026];
-    let mut stack = [0u32; 1026];
-    let mut index = [0u16; 2054];
     draft_numbering::number(draft, root, &mut numbers, &mut stack, result, &mut index)
 }
 

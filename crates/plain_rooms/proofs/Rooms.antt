@@ -1,7 +1,7 @@
 -- What a plain form is drafted with in a room of a size, where nothing is drafted yet, and what numbering it writes.
 use Prim.Native.Nat.{ℕ, _+_, _*_, _≤_, _<_}
 use native.Mathlib.Omega.{arith}
-use mathlib.Core.Path.{_≡_, sym}
+use mathlib.Core.Path.{_≡_}
 use mathlib.Core.Bool.{true, false}
 use mathlib.Core.List.{List}
 use lib.ListN.{length, replicate, length-replicate}
@@ -30,7 +30,7 @@ module _ (most n : ℕ) {t out : List ℕ} (q : Asked most t out) where
 
   module _ {d : List ℕ} {root : ℕ} (f : Drafted d (plain true (rule t)) root) where
     pub to-number : 2 * most + 2 ≤ n → length d ≡ length (replicate {A = ℕ} n 0) → numbers.Asked n d root out
-    to-number slots same = record { formula = plain true (rule t); drafted = f; long = sym (still-long n same); lent = omega (arith, q .few, q .lent) }
+    to-number slots same = record { formula = plain true (rule t); drafted = f; long = omega (arith, still-long n same); lent = omega (arith, q .few, q .lent) }
 
     pub form-written : {made : List ℕ} {r : ℕ} → numbers.Made d root out made r → Written (plainTable t) out made r
     unfolding plainTable

@@ -24,7 +24,7 @@ fn of_64(table: &[u32], result: &mut [u32]) -> usize
 {
     let mut draft = [0u64; 130];
     let root = draft_rule(table, &mut draft);
-    number_rooms::of_130(&draft, root, result)
+    number_rooms::of_195(&draft, root, result)
 }
 
 fn of_256(table: &[u32], result: &mut [u32]) -> usize

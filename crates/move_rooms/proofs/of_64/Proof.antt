@@ -4,7 +4,7 @@ use mathlib.Core.Path.{_≡_}
 use lib.ListN.{length}
 use denote.Ref.{now}
 use Rattle.automata_tables.specs.Moves.{asFormula, writtenAt}
-use Rattle.number_rooms.proofs.Rooms.{zeros-long, still-long}
+use Rattle.number_rooms.proofs.Rooms.{zeros-long, still-long, asked-larger}
 use Rattle.move_rooms.proofs.Rooms.{room-for, to-number, moved}
 use Rattle.move_rooms.proofs.of_64.Statement.{statement}
 use Rattle.move_rooms.proofs.of_64.Tie as tie
@@ -16,18 +16,18 @@ fill-requires c κs = let q = c .before .before .before .before .before .pre in 
 long : (c : tie.After-fill) → 455 ≡ length (c .fill .last .1 .1 .1 .1 .1 .1 .1 .0)
 long c = still-long 455 (c .fill .kept .1 .1 .1 .1 .1 .1 .1 .0)
 
-numbering-requires : tie.Need-of-455-requires
+numbering-requires : tie.Need-of-514-requires
 numbering-requires c κs =
     let filled = c .before .before .before in
     let start = filled .before .before .before .before .before .before in
     let a = start .args in
-    to-number 64 455 (start .pre .1) (asFormula (writtenAt (now (a .words)) (a .state) (a .sample))) (filled .fill .ensures .0) (long filled) (omega arith)
+    asked-larger (to-number 64 455 (start .pre .1) (asFormula (writtenAt (now (a .words)) (a .state) (a .sample))) (filled .fill .ensures .0) (long filled) (omega arith)) (omega arith)
 
 returns : tie.Need-returns
 returns c =
     let filled = c .before .before .before .before .before .before in
     let q = filled .before .before .before .before .before .before .pre in
-    moved 64 455 (q .1) (q .0) (filled .fill .ensures) (long filled) (omega arith) (c .before .before .of-455 .ensures)
+    moved 64 455 (q .1) (q .0) (filled .fill .ensures) (long filled) (omega arith) (c .before .before .of-514 .ensures)
 
 pub of-64-spec : {M : Type 1} → statement M
 of-64-spec =
@@ -37,5 +37,5 @@ of-64-spec =
     fill-requires
     (λ c. long (c .before .before))
     numbering-requires
-    (λ c. c .before .before .of-455 .kept .1 .1 .0)
+    (λ c. c .before .before .of-514 .kept .1 .1 .0)
     returns)

@@ -24,5 +24,4 @@ of-bytes-spec =
     (omega arith)
     (omega arith)
     (search needs)
-    (omega arith)
     (search needs))

@@ -25,5 +25,4 @@ of-rows-spec =
     (omega arith)
     (omega arith)
     (search needs)
-    (omega arith)
     (search needs))

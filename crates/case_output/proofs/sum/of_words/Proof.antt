@@ -25,5 +25,4 @@ of-words-spec =
     (omega arith)
     (omega arith)
     (search needs)
-    (omega arith)
     (search needs))

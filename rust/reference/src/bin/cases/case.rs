@@ -159,56 +159,40 @@ impl Case {
         Recording { samples, start: self.start, driven: self.driven }
     }
 
-    /// The line that the runner must print: number and place, the lent numbers, and a sum over the whole of each lent slice.
+    /// The line that the runner must print: the step, then what it replies.
     pub fn prints(&self) -> String {
+        let numbers: Vec<String> = [self.step as u64].into_iter().chain(self.reply()).map(|n| n.to_string()).collect();
+        numbers.join(" ")
+    }
+
+    /// Number and place, the lent numbers, and a sum over the whole of each lent slice.
+    fn reply(&self) -> Vec<u64> {
         let table = self.table();
         match self.step {
-            Step::Check => answer(&steps::check(&table, self.plain, self.limit)),
+            Step::Check => answer(&steps::check(&table, self.plain, self.limit)).to_vec(),
             Step::Class => {
                 let mut bytes = vec![0xEE; 16_400];
                 let said = answer(&steps::classify(&table, &mut bytes[..self.room]));
-                format!("{said}{}", sum(bytes.iter().map(|&b| b.into())))
+                [&said[..], &[sum(bytes.iter().map(|&b| b.into()))]].concat()
             }
             Step::Text => {
                 let text: Vec<u8> = table.iter().map(|&byte| u8::try_from(byte).expect("a byte")).collect();
-                let mut result = vec![0xEEEE_EEEE; PLAIN_ROOM];
-                let made = steps::text(&text, self.limits, &mut result[..self.room]);
-                format!("{}, {}{}", answer(&made), made.unwrap_or(0), words(&result))
+                self.made(PLAIN_ROOM, |result| steps::text(&text, self.limits, result))
             }
-            Step::Plain => {
-                let mut result = vec![0xEEEE_EEEE; PLAIN_ROOM];
-                let made = steps::plain(&table, self.limits, &mut result[..self.room]);
-                format!("{}, {}{}", answer(&made), made.unwrap_or(0), words(&result))
-            }
+            Step::Plain => self.made(PLAIN_ROOM, |result| steps::plain(&table, self.limits, result)),
             Step::Normal => {
                 let mut result = vec![0xEEEE_EEEE; FORM_ROOM];
                 let made = steps::normal(&table, self.limits, &mut result[..self.room]);
-                format!("{}, {}{}", answer(&made), stands(&made), words(&result))
+                [&answer(&made)[..], &stands(&made), &[words(&result)]].concat()
             }
-            Step::Dialect => {
-                let mut result = vec![0xEEEE_EEEE; FORM_ROOM];
-                let made = steps::dialect(&table, &mut result[..self.room]);
-                format!("{}, {}{}", answer(&made), made.unwrap_or(0), words(&result))
-            }
-            Step::After => {
-                let mut result = vec![0xEEEE_EEEE; FORM_ROOM];
-                let made = steps::after(&table, self.tally.judged, self.driven, &mut result[..self.room]);
-                format!("{}, {}{}", answer(&made), made.unwrap_or(0), words(&result))
-            }
-            Step::States => {
-                let mut result = vec![0xEEEE_EEEE; FORM_ROOM];
-                let made = steps::states(&table, &mut result[..self.room]);
-                format!("{}, {}{}", answer(&made), made.unwrap_or(0), words(&result))
-            }
-            Step::Move => {
-                let mut result = vec![0xEEEE_EEEE; FORM_ROOM];
-                let made = steps::moved(&table, self.desk, self.tally.judged, self.driven, &mut result[..self.room]);
-                format!("{}, {}{}", answer(&made), made.unwrap_or(0), words(&result))
-            }
+            Step::Dialect => self.made(FORM_ROOM, |result| steps::dialect(&table, result)),
+            Step::After => self.made(FORM_ROOM, |result| steps::after(&table, self.tally.judged, self.driven, result)),
+            Step::States => self.made(FORM_ROOM, |result| steps::states(&table, result)),
+            Step::Move => self.made(FORM_ROOM, |result| steps::moved(&table, self.desk, self.tally.judged, self.driven, result)),
             Step::Form => {
                 let (mut plain, mut result) = (vec![0xEEEE_EEEE; PLAIN_ROOM], vec![0xEEEE_EEEE; FORM_ROOM]);
                 let made = steps::form(&table, self.limits, &mut plain[..self.room], &mut result[..self.second]);
-                format!("{}, {}{}{}", answer(&made), stands(&made), words(&plain), words(&result))
+                [&answer(&made)[..], &stands(&made), &[words(&plain), words(&result)]].concat()
             }
             Step::Judge => {
                 let mut scratch = vec![u64::MAX; 2_100];
@@ -220,9 +204,8 @@ impl Case {
                 let judged = steps::judge(&table, recording, &mut scratch[..self.room], &mut tallies, self.desk);
                 let tally = tallies.get(self.desk).unwrap_or(&self.tally);
                 let j = judged.unwrap_or(Judgement { holds: false, moments: 0, failing: 0 });
-                let holds = if j.holds { "holds" } else { "fails" };
-                let (said, rows) = (answer(&judged), rows(&scratch));
-                format!("{said}, {holds}, {}, {}, {}, {}{rows}", j.moments, j.failing, tally.judged, tally.held)
+                let told = [j.holds as u64, j.moments as u64, j.failing as u64, tally.judged.into(), tally.held.into(), rows(&scratch)];
+                [&answer(&judged)[..], &told].concat()
             }
             Step::Row => {
                 let mut scratch = vec![u64::MAX; 2_100];
@@ -230,40 +213,47 @@ impl Case {
                 let part = steps::row(&table, self.recording(&samples), &mut scratch[..self.room]);
                 let said = answer(&part);
                 let part = part.unwrap_or(0..0);
-                format!("{said}, {}, {}{}", part.start, part.len(), rows(&scratch))
+                [&said[..], &[part.start as u64, part.len() as u64, rows(&scratch)]].concat()
             }
             Step::Compare => {
                 let samples = self.samples();
                 let first = Recording { samples: &table, start: self.room, driven: self.second };
                 let compared = steps::compare(first, self.recording(&samples));
-                let same = if compared == Ok(None) { "same" } else { "not the same" };
-                format!("{}, {same}, {}", answer(&compared), compared.ok().flatten().unwrap_or(0))
+                let same = compared == Ok(None);
+                [&answer(&compared)[..], &[same as u64, compared.ok().flatten().unwrap_or(0) as u64]].concat()
             }
         }
     }
+
+    /// The reply of a step that makes words in a slice, which held a pattern.
+    fn made(&self, room: usize, step: impl FnOnce(&mut [u32]) -> Result<usize, Refusal>) -> Vec<u64> {
+        let mut result = vec![0xEEEE_EEEE; room];
+        let made = step(&mut result[..self.room]);
+        [&answer(&made)[..], &[made.unwrap_or(0) as u64, words(&result)]].concat()
+    }
 }
 
-fn answer<T>(answer: &Result<T, Refusal>) -> String {
+fn answer<T>(answer: &Result<T, Refusal>) -> [u64; 2] {
     let refusal = answer.as_ref().err().copied().unwrap_or(Refusal { number: 0, place: 0 });
-    format!("{} at {}", refusal.number, refusal.place)
+    [refusal.number as u64, refusal.place as u64]
 }
 
-/// The length of a form, 0 where it is refused, and whether it is the source table or stands in the result.
-fn stands(form: &Result<Form, Refusal>) -> String {
+/// The length of a form, 0 where it is refused, and whether it is the source table.
+fn stands(form: &Result<Form, Refusal>) -> [u64; 2] {
     let form = form.unwrap_or(Form::Result(0));
-    format!("{}, {}", form.length(), if form.is_source() { "source" } else { "result" })
+    [form.length() as u64, form.is_source() as u64]
 }
 
 /// A sum in which the place of every element counts.
-fn sum(values: impl Iterator<Item = u64>) -> String {
-    format!(", {:08X}", values.fold(0, |x, value| (x * 31 + value) % (1 << 32)))
+fn sum(values: impl Iterator<Item = u64>) -> u64 {
+    values.fold(0, |x, value| (x * 31 + value) % (1 << 32))
 }
 
-fn words(slice: &[u32]) -> String {
+fn words(slice: &[u32]) -> u64 {
     sum(slice.iter().map(|&w| w.into()))
 }
 
-fn rows(scratch: &[u64]) -> String {
+fn rows(scratch: &[u64]) -> u64 {
     sum(scratch.iter().map(|w| w % (1 << 32) * 3 + (w >> 32)))
 }
 
