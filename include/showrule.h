@@ -24,7 +24,7 @@
  *   - A call needs stack: 512 KB have been enough for the longest and the deepest rules, except on tables of over 512 words for
  *       showrule_dialect   1 MB: its arrays have some 512 KB
  *       showrule_after     1 MB: some 736 KB
- *       showrule_move      1 MB: some 505 KB; of over 4,096 words 2 MB: some 1,681 KB
+ *       showrule_move      1 MB: some 529 KB; of over 4,096 words 2 MB: some 1,681 KB
  *     (rust/showrule/tests/stack.rs tries them).
  */
 #ifndef SHOWRULE_H

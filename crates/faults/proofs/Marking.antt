@@ -10,9 +10,9 @@ use lib.Dec.{eqb}
 use borrow.Author.Tests.{eqb-true, eqb-false}
 use Rattle.table.specs.Node.{Shape, none, constant, letter, unary, binary, kind, left, right, shape}
 use Rattle.table.specs.Checks.{uses, used}
-use Rattle.field_checks.specs.declared.layout.Layout.{Layout}
-use Rattle.field_checks.specs.declared.layout.Layout.the-variants.{Constant, Letter, Unary, Binary}
-use Rattle.field_checks.specs.Layout.{layoutOf}
+use Rattle.layouts.specs.declared.Layout.{Layout}
+use Rattle.layouts.specs.declared.Layout.the-variants.{Constant, Letter, Unary, Binary}
+use Rattle.layouts.specs.Layout.{layoutOf}
 use Rattle.lookup.proofs.Laws.{indexed-none}
 use Rattle.field_faults.specs.Marks.{markedBy}
 use Rattle.fields.specs.Marks.{markedWith}

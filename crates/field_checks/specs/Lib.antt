@@ -1,3 +1,2 @@
--- What the fields of a word are for, and the checks of one.
-pub mod Layout
+-- The checks of one field of a word.
 pub mod Field

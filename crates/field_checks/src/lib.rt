@@ -1,6 +1,4 @@
 // The checks of one field of a word, by what it is for; an operand that passes is marked on the way.
-pub mod layout;
-
 use refusals::Outcome;
 use refusals::Refusal;
 ghost use mathlib.Core.Path.{_≡_};

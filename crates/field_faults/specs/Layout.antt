@@ -2,8 +2,8 @@
 use Prim.Native.Nat.{ℕ}
 use mathlib.Core.List.{List, _++_}
 use Rattle.refusals.specs.Refusals.{Check}
-use Rattle.field_checks.specs.declared.layout.Layout.{Layout}
-use Rattle.field_checks.specs.declared.layout.Layout.the-variants.{Constant, Letter, Unary, Binary}
+use Rattle.layouts.specs.declared.Layout.{Layout}
+use Rattle.layouts.specs.declared.Layout.the-variants.{Constant, Letter, Unary, Binary}
 use Rattle.field_checks.specs.Field.{blankChecks, operandChecks, letterChecks}
 
 -- the checks of a left field l, and then of a right field r

@@ -3,8 +3,8 @@ use Prim.Native.Nat.{ℕ}
 use mathlib.Core.Bool.{Bool, true}
 use mathlib.Core.List.{List}
 use lib.ListN.{set}
-use Rattle.field_checks.specs.declared.layout.Layout.{Layout}
-use Rattle.field_checks.specs.declared.layout.Layout.the-variants.{Constant, Letter, Unary, Binary}
+use Rattle.layouts.specs.declared.Layout.{Layout}
+use Rattle.layouts.specs.declared.Layout.the-variants.{Constant, Letter, Unary, Binary}
 
 -- the marks with those of the operands of a word, by the layout of its fields l and r
 abbrev pub markedBy : Layout → ℕ → ℕ → List Bool → List Bool

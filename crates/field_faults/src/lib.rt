@@ -1,9 +1,9 @@
 // The checks of a word's two fields by their layout; the operands that pass are marked on the way.
 use field_checks::blank_fault;
 use field_checks::first_of;
-use field_checks::layout::Layout;
 use field_checks::letter_fault;
 use field_checks::operand_fault;
+use layouts::Layout;
 use refusals::Outcome;
 ghost use Prim.Native.Nat.{_≤_};
 ghost use lib.ListN.{length};

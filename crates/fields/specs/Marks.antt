@@ -3,7 +3,7 @@ use Prim.Native.Nat.{ℕ}
 use mathlib.Core.Bool.{Bool}
 use mathlib.Core.List.{List}
 use Rattle.table.specs.Node.{kind, left, right, shape}
-use Rattle.field_checks.specs.Layout.{layoutOf}
+use Rattle.layouts.specs.Layout.{layoutOf}
 use Rattle.field_faults.specs.Marks.{markedBy}
 
 abbrev pub markedWith : ℕ → List Bool → List Bool

@@ -1,5 +1,4 @@
 // The checks of one word by itself: its kind, then its fields; the operands that pass are marked on the way.
-use field_checks::layout;
 use field_faults::field_fault;
 use refusals::Outcome;
 use refusals::Refusal;
@@ -23,7 +22,7 @@ pub fn fault(w: u32, n: usize, plain: bool, marks: &mut [bool]) -> Outcome
         return Outcome::Refused(Refusal::NotPlain(n));
     }
     field_fault(
-        layout::of_kind(kind),
+        layouts::of_kind(kind),
         word::left(w),
         word::right(w),
         n,

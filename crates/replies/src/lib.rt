@@ -1,27 +1,7 @@
-// The answers of the steps as lent numbers: document 01's refusal number, 0 when the call is accepted, its place, and what an accepted call says.
-ghost use mathlib.Core.Path.{_≡_};
-ghost use Rattle.refusals.specs.Refusals.{outcomeNumber, outcomePlace};
+// The answers of the steps that make words as lent numbers: document 01's refusal number, 0 when the call is accepted, its place, and what was made.
 ghost use Rattle.replies.specs.Replies.{TableReply, FormReply};
-use refusals::Outcome;
 use table::answer::Answer;
 use table::answer::Form;
-
-pub fn reply(o: Outcome, place: &mut usize) -> u32
-    ensures { λ r. ⌜ r ≡ outcomeNumber o ⌝ }
-    ensures { λ r. ⌜ now (place .exit) ≡ outcomePlace o ⌝ }
-{
-    match o {
-        Outcome::Accepted => {
-            *place = 0;
-            0
-        }
-        Outcome::Refused(r) => {
-            let told = reports::report_of(r);
-            *place = told.1;
-            told.0
-        }
-    }
-}
 
 // How many words a table has, or the refusal, in lent numbers.
 pub fn table_reply(a: Answer, words: &mut usize, place: &mut usize) -> u32

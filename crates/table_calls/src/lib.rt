@@ -5,7 +5,7 @@ ghost use lib.ListN.{length};
 ghost use Rattle.refusals.specs.Refusals.{outcomeNumber, outcomePlace};
 ghost use Rattle.table.specs.Header.{headedChecked};
 ghost use Rattle.table.specs.Frame.{classStep, outcomeOf, resultOf};
-use replies::reply;
+use outcome_replies::reply;
 
 pub fn check(table: &[u32], plain: bool, limit: usize, place: &mut usize) -> u32
     ensures { λ r. ⌜ r ≡ outcomeNumber (headedChecked plain limit (now (table .entry))) ⌝ }

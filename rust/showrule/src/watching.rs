@@ -65,7 +65,7 @@ pub fn start<'a>(table: &[u32], result: &'a mut [u32]) -> Result<&'a [u32], Refu
 /// class is the state's own or lies within it, Sigma left of Pi. What stands past it stays. A table of n words has moves of at most 7 n + 7.
 /// The bits of the sample above the driven ones are never looked at. State number 0 is the start, whatever the sample; a number past the
 /// last is refused as 6 at place 0. Refused as 12, every word of the slice is 0; refused otherwise, it is as it was. More than 16,383 states
-/// or words are refused as 12, whatever the slice. A table of over 512 words takes some 505 KB of stack, and one of over 4,096 some 1,681.
+/// or words are refused as 12, whatever the slice. A table of over 512 words takes some 529 KB of stack, and one of over 4,096 some 1,681.
 pub fn moved<'a>(table: &[u32], state: usize, sample: u32, driven: usize, result: &'a mut [u32]) -> Result<&'a [u32], Refusal> {
     let (mut words, mut place) = (0, 0);
     let number = unsafe {

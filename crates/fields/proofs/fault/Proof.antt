@@ -9,7 +9,7 @@ use borrow.Author.Tests.{eq-eqb, ne-eqb}
 use borrow.Author.Needs.{needs}
 use Rattle.table.specs.Node.{kind, shape}
 use Rattle.table.proofs.Fields.{kind-lt}
-use Rattle.field_checks.specs.Layout.{layoutOf}
+use Rattle.layouts.specs.Layout.{layoutOf}
 use Rattle.field_checks.proofs.First.{refused}
 use Rattle.fields.proofs.Layouts.{word-by-layout}
 use Rattle.fields.proofs.fault.Statement.{statement}

@@ -2,7 +2,7 @@
 ghost use mathlib.Core.Path.{_≡_};
 ghost use Prim.Native.Nat.{_<_};
 ghost use Rattle.table.specs.Node.{shape};
-ghost use Rattle.field_checks.specs.Layout.{layoutOf};
+ghost use Rattle.layouts.specs.Layout.{layoutOf};
 
 pub enum Layout {
     Constant,

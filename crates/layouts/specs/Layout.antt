@@ -1,7 +1,7 @@
 -- The four layouts of a word's fields.
 use Rattle.table.specs.Node.{Shape, none, constant, letter, unary, binary}
-use Rattle.field_checks.specs.declared.layout.Layout.{Layout}
-use Rattle.field_checks.specs.declared.layout.Layout.the-variants.{Constant, Letter, Unary, Binary}
+use Rattle.layouts.specs.declared.Layout.{Layout}
+use Rattle.layouts.specs.declared.Layout.the-variants.{Constant, Letter, Unary, Binary}
 
 abbrev pub layoutOf : Shape → Layout
 layoutOf none = Constant

@@ -4,11 +4,11 @@ use mathlib.Core.Path.{_≡_, refl}
 use native.Mathlib.Omega.{arith}
 use Rattle.logic.proofs.Numbers.{in-range}
 use Rattle.table.specs.Node.{shape}
-use Rattle.field_checks.specs.declared.layout.Layout.{Layout}
-use Rattle.field_checks.specs.declared.layout.Layout.the-variants.{Constant, Letter, Unary, Binary}
-use Rattle.field_checks.specs.Layout.{layoutOf}
-use Rattle.field_checks.proofs.layout.of_kind.Statement.{statement}
-use Rattle.field_checks.proofs.layout.of_kind.Tie as tie
+use Rattle.layouts.specs.declared.Layout.{Layout}
+use Rattle.layouts.specs.declared.Layout.the-variants.{Constant, Letter, Unary, Binary}
+use Rattle.layouts.specs.Layout.{layoutOf}
+use Rattle.layouts.proofs.of_kind.Statement.{statement}
+use Rattle.layouts.proofs.of_kind.Tie as tie
 
 abbrev Laid : Layout → ℕ → Type 0
 Laid y k = y ≡ layoutOf (shape k)

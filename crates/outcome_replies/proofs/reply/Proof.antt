@@ -2,8 +2,8 @@ use mathlib.Core.Path.{sym, ap, _∙_}
 use Rattle.refusals.specs.Refusals.{outcomeNumber, outcomePlace}
 use Rattle.refusals.specs.declared.Report.{Report}
 use borrow.Author.Needs.{needs}
-use Rattle.replies.proofs.reply.Statement.{statement}
-use Rattle.replies.proofs.reply.Tie as tie
+use Rattle.outcome_replies.proofs.reply.Statement.{statement}
+use Rattle.outcome_replies.proofs.reply.Tie as tie
 
 returns : tie.Need-returns
 returns c = let e = sym (c .enum-told .given .1) in (ap outcomeNumber e, ap outcomePlace e)

@@ -1,0 +1,2 @@
+-- What the two fields of a word are for.
+pub mod Layout
