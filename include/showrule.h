@@ -204,7 +204,8 @@ uint32_t showrule_move(const uint32_t *table, size_t length, size_t state, uint3
  * form, *in_plain is true: the form is the first *form_length words of plain, and the result is as it was. Else *in_plain is false, and the
  * form is the first *form_length words of the result. Where the plain form is refused, the number and the place are those of that refusal,
  * and the result is as it was; else number, place and the result are as showrule_normal leaves them, and the place of 11 is the number of
- * a word of the plain form. A 12 is of the slice in which every word is 0. Refused, *in_plain is false and *form_length 0. */
+ * a word of the plain form. A 12 is of plain where every word of plain is 0, and else of the result: a plain form that was made begins with
+ * its header, which is not 0. Refused, *in_plain is false and *form_length 0. */
 uint32_t showrule_form(const uint32_t *table, size_t length, size_t written, size_t until_like, uint32_t *plain, size_t plain_room,
                        uint32_t *result, size_t room, bool *in_plain, size_t *form_length, size_t *place);
 

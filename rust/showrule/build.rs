@@ -1,4 +1,4 @@
-//! Finds the static library that `rt staticlib boundary` writes: in SHOWRULE_LIB_DIR, or in this repository's target/staticlib.
+//! Finds the static library that `rt staticlib boundary` writes: in SHOWRULE_LIB_DIR, an absolute path, or in this repository's target/staticlib.
 use std::{env, path::PathBuf};
 
 fn main() {
@@ -9,7 +9,7 @@ fn main() {
     let library = folder.join("libboundary.a");
     if !library.is_file() {
         panic!(
-            "{} is missing: run `rt staticlib boundary` in the repository, or set SHOWRULE_LIB_DIR to the folder that has libboundary.a",
+            "{} is missing: run `rt staticlib boundary` in the repository, or set SHOWRULE_LIB_DIR to the folder that has libboundary.a, by its absolute path",
             library.display()
         );
     }

@@ -27,9 +27,10 @@ use std::time::Instant;
 /// Differences after which a run stops looking.
 const ENOUGH: usize = 3;
 
-/// What a run has seen: how often each step answered each number, and the differences.
+/// What a run has seen: how many inputs, how often each step answered each number, and the differences.
 #[derive(Default)]
 struct Report {
+    inputs: u64,
     answers: BTreeMap<(&'static str, u32), u64>,
     differences: Vec<(Input, Box<Difference>)>,
 }
@@ -55,7 +56,7 @@ fn main() -> ExitCode {
     });
     let report = report.into_inner().expect("no thread failed");
     print(&report);
-    let (all, differences) = (inputs + fixed.len() as u64, report.differences.len());
+    let (all, differences) = (report.inputs, report.differences.len());
     println!("{all} inputs compared, {differences} differences, {:.0} s", began.elapsed().as_secs_f64());
     if differences == 0 {
         ExitCode::SUCCESS
@@ -65,8 +66,9 @@ fn main() -> ExitCode {
 }
 
 fn compare_all(inputs: impl Iterator<Item = Input>, report: &Mutex<Report>) {
-    let mut answers = BTreeMap::new();
+    let (mut compared, mut answers) = (0, BTreeMap::new());
     for input in inputs {
+        compared += 1;
         match compare(&Product, &Reference::default(), &input) {
             Ok(numbers) => numbers.into_iter().for_each(|answer| *answers.entry(answer).or_default() += 1),
             Err(_) => {
@@ -79,6 +81,7 @@ fn compare_all(inputs: impl Iterator<Item = Input>, report: &Mutex<Report>) {
         }
     }
     let mut report = report.lock().expect("no thread failed");
+    report.inputs += compared;
     answers.into_iter().for_each(|(answer, count): (_, u64)| *report.answers.entry(answer).or_default() += count);
 }
 

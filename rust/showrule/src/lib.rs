@@ -114,6 +114,8 @@ pub struct Judgement {
 
 /// The header of a table of so many words, 1 to 16,383: the class byte is that of the last word, or 0 where a word of kind 12 to 15 occurs.
 ///
+/// Of a greater count the header has the lowest 14 bits, so that a table of so many words is refused.
+///
 /// ```
 /// // F p1, of class 7A
 /// let finally = [showrule::header(0x7A, 3), 0x2000_0000, 0x3000_0001, 0x8000_4002];
@@ -121,7 +123,7 @@ pub struct Judgement {
 /// assert!(showrule::check(&finally, true, 130).is_ok());
 /// ```
 pub const fn header(class_byte: u8, words: usize) -> u32 {
-    (class_byte as u32) << 14 | words as u32
+    (class_byte as u32) << 14 | (words & MOST_WORDS) as u32
 }
 
 /// The words of a table, without its header.
@@ -303,9 +305,10 @@ pub fn form<'a>(table: &[u32], limits: Limits, plain: &'a mut [u32], result: &'a
     Ok(if in_plain { &mut plain[..length] } else { &mut result[..length] })
 }
 
-/// How many 64-bit words of scratch a table of so many words needs for a recording of so many samples. The header needs none.
+/// How many 64-bit words of scratch a table of so many words needs for a recording of so many samples. The header needs none. Of more than
+/// a `usize` can say it is the greatest `usize`.
 pub fn scratch_words(words: usize, samples: usize) -> usize {
-    words * samples.div_ceil(64)
+    words.saturating_mul(samples.div_ceil(64))
 }
 
 /// Judges a rule over a recording. The rows of all words stand at the start of the scratch, and of the tallies, one for each desk, that of

@@ -1,7 +1,7 @@
 //! Every refusal of a table, a form, a recording and a sample: its number, its place and its sentence.
 use showrule::{
-    after, check, classify, compare, dialect, form, from_text, judge, moved, normal_form, plain_form, row, start, states,
-    Following, Limits, Recording, Refusal, Rule, State, Tally,
+    after, check, classify, compare, dialect, form, from_text, header, judge, moved, normal_form, plain_form, row, scratch_words,
+    start, states, Following, Limits, Recording, Refusal, Rule, State, Tally,
 };
 
 fn is<T: std::fmt::Debug>(answer: Result<T, Refusal>, number: u32, place: usize, sentence: &str) {
@@ -58,6 +58,14 @@ fn headers() {
 
 /// F G F p1 in plain form, with three until-like words: outside Delta-2.
 const AGAIN: [u32; 7] = [0x0000_0006, 0x2000_0000, 0x1000_0000, 0x3000_0001, 0x8000_4003, 0xA000_8004, 0x8000_4005];
+
+#[test]
+fn numbers_past_their_range() {
+    assert_eq!(header(0xFF, 16_383), 0x003F_FFFF);
+    assert_eq!(header(0xFF, 16_384), 0x003F_C000);
+    assert_eq!(scratch_words(16_383, 4_096), 1_048_512);
+    assert_eq!(scratch_words(usize::MAX, 65), usize::MAX);
+}
 
 #[test]
 fn forms() {
