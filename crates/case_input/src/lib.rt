@@ -1,6 +1,6 @@
 // What the case runner reads: words, and the tables and recordings that a case is about.
 
-// A case in 19 words, in this order: the step (1 check, 2 class, 3 plain form, 4 normal form, 5 whole way, 6 judge, 7 row call, 8 text,
+// The head of a case is 19 words, by these numbers: the step (1 check, 2 class, 3 plain form, 4 normal form, 5 whole way, 6 judge, 7 row call, 8 text,
 // 9 dialect, 10 comparison, 11 step by a sample, 12 states of the automaton, 13 move of a state); how many words of a chain the table has
 // after its header, and how many are listed, the header and those after the chain; the number of a word that is replaced, the header being the first (0: none), and the word; the limits of the house, on written
 // words and on fixpoints; the rooms of the lent slices; whether plain tables only, and the limit, of the check; the number of samples, the
@@ -8,61 +8,59 @@
 // (0: they are listed). The listed words follow, of a text a byte a word, then the listed samples. Of a comparison the listed words are the
 // first recording's samples, and the rooms its loop start and its driven count. Of a step by a sample, and of a move, the sample stands in
 // place of the tally's judgements, and of a move the state's number in place of the desk's.
-pub struct Case {
-    pub step: u32,
-    pub chain: usize,
-    pub listed: usize,
-    pub replaced: usize,
-    pub word: u32,
-    pub written: usize,
-    pub fixpoints: usize,
-    pub room: usize,
-    pub second: usize,
-    pub plain: bool,
-    pub limit: usize,
-    pub samples: usize,
-    pub start: usize,
-    pub driven: usize,
-    pub desks: usize,
-    pub desk: usize,
-    pub judged: u32,
-    pub held: u32,
-    pub seed: usize,
-}
+pub const STEP: usize = 0;
+
+pub const CHAIN: usize = 1;
+
+pub const LISTED: usize = 2;
+
+pub const REPLACED: usize = 3;
+
+pub const WORD: usize = 4;
+
+pub const WRITTEN: usize = 5;
+
+pub const FIXPOINTS: usize = 6;
+
+pub const ROOM: usize = 7;
+
+pub const SECOND: usize = 8;
+
+pub const PLAIN: usize = 9;
+
+pub const LIMIT: usize = 10;
+
+pub const SAMPLES: usize = 11;
+
+pub const START: usize = 12;
+
+pub const DRIVEN: usize = 13;
+
+pub const DESKS: usize = 14;
+
+pub const DESK: usize = 15;
+
+pub const JUDGED: usize = 16;
+
+pub const HELD: usize = 17;
+
+pub const SEED: usize = 18;
 
 fn wide(w: u32) -> usize {
     w as usize
 }
 
-fn number(w: &[u32; 19], i: usize) -> usize {
+// A word of a head.
+pub fn word(head: &[u32; 19], i: usize) -> u32 {
     if i < 19 {
-        return wide(w[i]);
+        return head[i];
     }
     0
 }
 
-pub fn case_of(w: &[u32; 19]) -> Case {
-    Case {
-        step: w[0],
-        chain: number(w, 1),
-        listed: number(w, 2),
-        replaced: number(w, 3),
-        word: w[4],
-        written: number(w, 5),
-        fixpoints: number(w, 6),
-        room: number(w, 7),
-        second: number(w, 8),
-        plain: w[9] == 1,
-        limit: number(w, 10),
-        samples: number(w, 11),
-        start: number(w, 12),
-        driven: number(w, 13),
-        desks: number(w, 14),
-        desk: number(w, 15),
-        judged: w[16],
-        held: w[17],
-        seed: number(w, 18),
-    }
+// The same, as a number.
+pub fn number(head: &[u32; 19], i: usize) -> usize {
+    wide(word(head, i))
 }
 
 fn decode(bytes: &[u8; 65600], out: &mut [u32]) {
@@ -99,6 +97,23 @@ pub fn bytes(words: &[u32], out: &mut [u8]) {
     while i < out.len() {
         let b = lowest(words, i);
         out[i] = b;
+        i += 1;
+    }
+}
+
+fn listed_word(words: &[u32], i: usize) -> u32 {
+    if i < words.len() {
+        return words[i];
+    }
+    0
+}
+
+// Each word, as many as there is room for, and then 0.
+pub fn copy(words: &[u32], out: &mut [u32]) {
+    let mut i: usize = 0;
+    while i < out.len() {
+        let w = listed_word(words, i);
+        out[i] = w;
         i += 1;
     }
 }

@@ -30,14 +30,6 @@ pub fn judgement(number: u32, place: usize, holds: bool, moments: usize, failing
     show::number(failing);
 }
 
-// The row of a rule.
-pub fn row(number: u32, place: usize, from: usize, words: usize, scratch: &[u64; 2100]) {
-    show::answer(number, place);
-    show::number(from);
-    show::number(words);
-    sum::scratch(scratch);
-}
-
 // Two recordings held against each other.
 pub fn comparison(number: u32, place: usize, same: bool, moment: usize) {
     show::answer(number, place);

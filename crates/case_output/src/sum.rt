@@ -47,6 +47,17 @@ fn of_rows(s: &[u64]) -> usize {
     x as usize
 }
 
+// How long a part that was handed back is, and its sum, printed.
+pub fn words(part: &[u32]) {
+    crate::show::number(part.len());
+    crate::show::number(of_words(part));
+}
+
+pub fn rows(part: &[u64]) {
+    crate::show::number(part.len());
+    crate::show::number(of_rows(part));
+}
+
 // The sums of the runner's lent memory, printed.
 pub fn bytes(s: &[u8; 16400]) {
     let all: &[u8] = s;

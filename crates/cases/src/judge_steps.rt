@@ -1,47 +1,28 @@
 // The judge's two calls, on a scratch that held a pattern, and the comparison of two recordings: what comes back. Each number that a call
 // writes held 9.
+use case_input as input;
+use case_input::number;
+use case_input::word;
 use case_output::made;
 use case_output::show;
 use case_output::sum;
 use tally::Tally;
 
 // By the call that takes the named desk's tally by value: a function that lends a slice of tallies is not covered.
-pub fn judge<'t>(
-    table: &'t [u32],
-    samples: &'t [u32],
-    start: usize,
-    driven: usize,
-    room: usize,
-    desks: usize,
-    desk: usize,
-    tally: Tally,
-) {
+pub fn judge<'t>(head: &[u32; 19], table: &'t [u32], samples: &'t [u32]) {
     let mut scratch = [18446744073709551615u64; 2100];
+    let room = number(head, input::ROOM);
     if room <= 2100 {
-        judged(
-            table,
-            samples,
-            start,
-            driven,
-            &mut scratch[0..room],
-            desks,
-            desk,
-            tally,
-        );
+        judged(head, table, samples, &mut scratch[0..room]);
         sum::scratch(&scratch);
     }
 }
 
-fn judged<'t>(
-    table: &'t [u32],
-    samples: &'t [u32],
-    start: usize,
-    driven: usize,
-    scratch: &'t mut [u64],
-    desks: usize,
-    desk: usize,
-    tally: Tally,
-) {
+fn judged<'t>(head: &[u32; 19], table: &'t [u32], samples: &'t [u32], scratch: &'t mut [u64]) {
+    let tally = Tally {
+        judged: word(head, input::JUDGED),
+        held: word(head, input::HELD),
+    };
     let mut holds = true;
     let mut moments: usize = 9;
     let mut failing: usize = 9;
@@ -49,11 +30,11 @@ fn judged<'t>(
     let called = judge_calls::judge(
         table,
         samples,
-        start,
-        driven,
+        number(head, input::START),
+        number(head, input::DRIVEN),
         scratch,
-        desks,
-        desk,
+        number(head, input::DESKS),
+        number(head, input::DESK),
         tally,
         &mut holds,
         &mut moments,
@@ -69,47 +50,46 @@ fn tally_shown(t: Tally) {
     show::number(t.held as usize);
 }
 
-pub fn row(table: &[u32], samples: &[u32], start: usize, driven: usize, room: usize) {
+// The row that is handed back, and the whole scratch.
+pub fn row(head: &[u32; 19], table: &[u32], samples: &[u32]) {
     let mut scratch = [18446744073709551615u64; 2100];
-    let mut from: usize = 9;
-    let mut words: usize = 9;
-    let mut place: usize = 9;
+    let room = number(head, input::ROOM);
     if room <= 2100 {
-        let number = row_call::row(
-            table,
-            samples,
-            start,
-            driven,
-            &mut scratch[0..room],
-            &mut from,
-            &mut words,
-            &mut place,
-        );
-        made::row(number, place, from, words, &scratch);
+        handed(head, table, samples, &mut scratch[0..room]);
+        sum::scratch(&scratch);
     }
 }
 
-pub fn compare(
-    first: &[u32],
-    first_start: usize,
-    first_driven: usize,
-    second: &[u32],
-    second_start: usize,
-    second_driven: usize,
-) {
+fn handed(head: &[u32; 19], table: &[u32], samples: &[u32], scratch: &mut [u64]) {
+    let mut refusal: u32 = 9;
+    let mut place: usize = 9;
+    let part = rule_rows::row(
+        table,
+        samples,
+        number(head, input::START),
+        number(head, input::DRIVEN),
+        scratch,
+        &mut refusal,
+        &mut place,
+    );
+    show::answer(refusal, place);
+    sum::rows(part);
+}
+
+pub fn compare(head: &[u32; 19], first: &[u32], second: &[u32]) {
     let mut same = true;
     let mut moment: usize = 9;
     let mut place: usize = 9;
-    let number = comparison_call::compare(
+    let refusal = comparison_call::compare(
         first,
-        first_start,
-        first_driven,
+        number(head, input::ROOM),
+        number(head, input::SECOND),
         second,
-        second_start,
-        second_driven,
+        number(head, input::START),
+        number(head, input::DRIVEN),
         &mut same,
         &mut moment,
         &mut place,
     );
-    made::comparison(number, place, same, moment);
+    made::comparison(refusal, place, same, moment);
 }

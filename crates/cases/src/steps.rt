@@ -1,62 +1,47 @@
 // One case: the call that it names.
 use crate::judge_steps;
 use crate::table_steps;
-use case_input::Case;
+use case_input as input;
+use case_input::number;
+use case_input::word;
 use case_output::show;
-use tally::Tally;
 
-fn tally_of(c: Case) -> Tally {
-    Tally {
-        judged: c.judged,
-        held: c.held,
-    }
-}
-
-// What a number stands in place of, in some steps, is said with Case.
-fn call<'t>(c: Case, table: &'t [u32], samples: &'t [u32]) {
-    let step = c.step;
+// What a number stands in place of, in some steps, is said with the head (case_input).
+fn call<'t>(head: &[u32; 19], table: &'t [u32], samples: &'t [u32]) {
+    let step = word(head, input::STEP);
     show::first(step);
     match step {
-        1 => table_steps::check(table, c.plain, c.limit),
-        2 => table_steps::classify(table, c.room),
-        3 => table_steps::plain(table, c.written, c.fixpoints, c.room),
-        4 => table_steps::normal(table, c.written, c.fixpoints, c.room),
-        5 => table_steps::form(table, c.written, c.fixpoints, c.room, c.second),
-        6 => judge_steps::judge(
-            table,
-            samples,
-            c.start,
-            c.driven,
-            c.room,
-            c.desks,
-            c.desk,
-            tally_of(c),
-        ),
-        7 => judge_steps::row(table, samples, c.start, c.driven, c.room),
-        8 => table_steps::text(table, c.written, c.fixpoints, c.room),
-        9 | 11..=13 => table_steps::words(step, table, c.desk, c.judged, c.driven, c.room),
-        _ => judge_steps::compare(table, c.room, c.second, samples, c.start, c.driven),
+        1 => table_steps::check(head, table),
+        2 => table_steps::classify(head, table),
+        3 => table_steps::plain(head, table),
+        4 => table_steps::normal(head, table),
+        5 => table_steps::form(head, table),
+        6 => judge_steps::judge(head, table, samples),
+        7 => judge_steps::row(head, table, samples),
+        8 => table_steps::text(head, table),
+        10 => judge_steps::compare(head, table, samples),
+        _ => table_steps::words(head, table),
     }
     show::end();
 }
 
 // The samples of a case, and its call; whether the input had so many words.
-fn recorded(c: Case, table: &[u32]) -> bool {
+fn recorded(head: &[u32; 19], table: &[u32]) -> bool {
     let mut samples = [0u32; 4100];
-    let n = c.samples;
+    let n = number(head, input::SAMPLES);
     if 4100 < n {
         return false;
     }
-    let there = case_input::samples(&mut samples, n, c.seed);
-    call(c, table, &samples[0..n]);
+    let there = case_input::samples(&mut samples, n, number(head, input::SEED));
+    call(head, table, &samples[0..n]);
     there
 }
 
 // The table of a case, and its call; whether the input had so many words.
-fn tabled(c: Case) -> bool {
+fn tabled(head: &[u32; 19]) -> bool {
     let mut table = [0u32; 16400];
-    let from = c.chain;
-    let n = c.listed;
+    let from = number(head, input::CHAIN);
+    let n = number(head, input::LISTED);
     if 16400 < from {
         return false;
     }
@@ -64,13 +49,19 @@ fn tabled(c: Case) -> bool {
         return false;
     }
     let to = from + n;
-    let there = case_input::table(&mut table, from, to, c.replaced, c.word);
-    there && recorded(c, &table[0..to])
+    let there = case_input::table(
+        &mut table,
+        from,
+        to,
+        number(head, input::REPLACED),
+        word(head, input::WORD),
+    );
+    there && recorded(head, &table[0..to])
 }
 
 // The next case; whether there was one.
 pub fn one() -> bool {
     let mut head = [0u32; 19];
     let there = case_input::words(&mut head);
-    there && tabled(case_input::case_of(&head))
+    there && tabled(&head)
 }

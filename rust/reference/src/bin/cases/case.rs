@@ -181,9 +181,15 @@ impl Case {
             }
             Step::Plain => self.made(PLAIN_ROOM, |result| steps::plain(&table, self.limits, result)),
             Step::Normal => {
-                let mut result = vec![0xEEEE_EEEE; FORM_ROOM];
+                let (mut source, mut result) = (table.clone(), vec![0xEEEE_EEEE; FORM_ROOM]);
+                source.resize(FORM_ROOM, 0);
                 let made = steps::normal(&table, self.limits, &mut result[..self.room]);
-                [&answer(&made)[..], &stands(&made), &[words(&result)]].concat()
+                let part = match made {
+                    Ok(Form::Source(length)) => &source[..length],
+                    Ok(Form::Result(length)) => &result[..length],
+                    Err(_) => &[],
+                };
+                [&answer(&made)[..], &[part.len() as u64, words(part), words(&source), words(&result)]].concat()
             }
             Step::Dialect => self.made(FORM_ROOM, |result| steps::dialect(&table, result)),
             Step::After => self.made(FORM_ROOM, |result| steps::after(&table, self.tally.judged, self.driven, result)),
@@ -204,7 +210,8 @@ impl Case {
                 let judged = steps::judge(&table, recording, &mut scratch[..self.room], &mut tallies, self.desk);
                 let tally = tallies.get(self.desk).unwrap_or(&self.tally);
                 let j = judged.unwrap_or(Judgement { holds: false, moments: 0, failing: 0 });
-                let told = [j.holds as u64, j.moments as u64, j.failing as u64, tally.judged.into(), tally.held.into(), rows(&scratch)];
+                let told =
+                    [j.holds as u64, j.moments as u64, j.failing as u64, tally.judged.into(), tally.held.into(), rows(&scratch)];
                 [&answer(&judged)[..], &told].concat()
             }
             Step::Row => {
@@ -212,8 +219,8 @@ impl Case {
                 let samples = self.samples();
                 let part = steps::row(&table, self.recording(&samples), &mut scratch[..self.room]);
                 let said = answer(&part);
-                let part = part.unwrap_or(0..0);
-                [&said[..], &[part.start as u64, part.len() as u64, rows(&scratch)]].concat()
+                let part = &scratch[part.unwrap_or(0..0)];
+                [&said[..], &[part.len() as u64, rows(part), rows(&scratch)]].concat()
             }
             Step::Compare => {
                 let samples = self.samples();
