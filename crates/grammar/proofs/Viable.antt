@@ -197,9 +197,9 @@ departs text e =
     rw d
     (record {
       no-rule = λ φ r. let c = complete r in let z : _≡_ {A = ℕ} 0 1 = cc in omega arith;
-      before = λ m h. viable (take m text) .1 (s .1 .before m h);
+      before = λ m h. viable (take m text) .1 (s .1 .before m (omega arith));
       here = λ h v. true≢false (sym (viable (take (s .0) text) .0 v) ∙ s .1 .here h);
-      within = s .1 .within;
+      within = omega (arith, s .1 .within);
     })
 
 -- and at no other place

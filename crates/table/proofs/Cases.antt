@@ -55,6 +55,16 @@ unfolding isRefusal
 is-refusal Accepted n p h = h
 is-refusal (Refused r) n p h = (eqb→eq _ _ (T-and (eqb (numberOf r) n) _ .0 h .0), eqb→eq _ _ (T-and (eqb (numberOf r) n) _ .0 h .1))
 
+isAccepted : Outcome → Bool
+isAccepted Accepted = true
+isAccepted (Refused r) = false
+
+-- a table that is accepted, and the rest of its row
+both-pass : (o : Outcome) (b : Bool) {P : Type 0} → (T b → P) → T (isAccepted o && b) → (o ≡ Accepted) × P
+unfolding isAccepted
+both-pass Accepted b f h = (refl, f h)
+both-pass (Refused r) b f h = absurd h
+
 -- a sequence begins, from k on, with the listed values
 matches : (ℕ → Bool) → ℕ → List Bool → Bool
 matches f k [] = true
@@ -68,26 +78,27 @@ match-at f k (b ∷ bs) h (suc i) l = let e : k + suc i ≡ suc k + i = omega ar
 
 -- the test of a row
 test : Case → Bool
-test (form t u) = sameList (headed (formTable (body t))) u
-test (normal t u) = sameList (headed (normalTable (body t))) u
-test (plain t u) = sameList (headed (plainTable (body t))) u
+test (form t u) = isAccepted (headedChecked true 16383 t) && sameList (headed (formTable (body t))) u
+test (normal t u) = isAccepted (headedChecked true 16383 t) && sameList (headed (normalTable (body t))) u
+test (plain t u) = isAccepted (headedChecked false 64 t) && sameList (headed (plainTable (body t))) u
 test (refused t n p) = isRefusal (headedChecked false 64 t) n p
 test (refusedBy s t n p) = isRefusal (first (s .checks t)) n p
-test (class t b) = eqb (classByte (rule (body t))) b
-test (judged t r bs) = matches (truth r (rule (body t))) 0 bs
+test (class t b) = isAccepted (headedChecked true 16383 t) && eqb (classByte (rule (body t))) b
+test (judged t r bs) = isAccepted (headedChecked false 16383 t) && matches (truth r (rule (body t))) 0 bs
 
 test-right : (c : Case) → T (test c) → Right c
 unfolding test
-test-right (form t u) h = same-list (headed (formTable (body t))) u h
-test-right (normal t u) h = same-list (headed (normalTable (body t))) u h
-test-right (plain t u) h = same-list (headed (plainTable (body t))) u h
+test-right (form t u) h = both-pass (headedChecked true 16383 t) _ (same-list (headed (formTable (body t))) u) h
+test-right (normal t u) h = both-pass (headedChecked true 16383 t) _ (same-list (headed (normalTable (body t))) u) h
+test-right (plain t u) h = both-pass (headedChecked false 64 t) _ (same-list (headed (plainTable (body t))) u) h
 test-right (refused t n p) h = is-refusal (headedChecked false 64 t) n p h
 test-right (refusedBy s t n p) h = is-refusal (first (s .checks t)) n p h
-test-right (class t b) h = eqb→eq (classByte (rule (body t))) b h
-test-right (judged t r bs) h = λ i l. Iff·trans (Iff·symm (truth-holds r (rule (body t)) i)) (rw zero-add at (match-at (truth r (rule (body t))) 0 bs h i l))
+test-right (class t b) h = both-pass (headedChecked true 16383 t) _ (eqb→eq (classByte (rule (body t))) b) h
+test-right (judged t r bs) h = both-pass (headedChecked false 16383 t) _
+    (λ m i l. Iff·trans (Iff·symm (truth-holds r (rule (body t)) i)) (rw zero-add at (match-at (truth r (rule (body t))) 0 bs m i l))) h
 
 all-pass : T (allPass test starred)
-unfolding allPass test sameList isRefusal matches isNormal formTable normalTable plainTable fixpoints rule formulas formulasAfter formulaOf wordFormula kind left right pack shape tableOf build put find findFrom normalForm choices choicesOf part chosen leastOf greatestOf steady recurring opening fold foldUnary foldBinary same ones onesIn negation.plain classByte isWritten classOf headerOf isMisheaded headedChecked headedChecks wordsChecks wordChecks useChecks limitChecks fixpointChecks uses used occurs truth sweep word place letterIn bit decide ℕ-discrete
+unfolding allPass test sameList isRefusal isAccepted matches isNormal formTable normalTable plainTable fixpoints rule formulas formulasAfter formulaOf wordFormula kind left right pack shape tableOf build put find findFrom normalForm choices choicesOf part chosen leastOf greatestOf steady recurring opening fold foldUnary foldBinary same ones onesIn negation.plain classByte isWritten classOf headerOf isMisheaded headedChecked headedChecks wordsChecks wordChecks useChecks limitChecks fixpointChecks uses used occurs truth sweep word place letterIn bit decide ℕ-discrete
 all-pass = tt
 
 -- every starred case holds

@@ -40,15 +40,15 @@ abbrev pub IsRefusal : Outcome → ℕ → ℕ → Type 0
 IsRefusal Accepted n p = ⊥
 IsRefusal (Refused r) n p = (numberOf r ≡ n) × (placeOf r ≡ p)
 
--- what a row says
+-- what a row says; a table that is not refused is accepted with its header
 abbrev pub Right : Case → Type 0
-Right (form t u) = headed (formTable (body t)) ≡ u
-Right (normal t u) = headed (normalTable (body t)) ≡ u
-Right (plain t u) = headed (plainTable (body t)) ≡ u
+Right (form t u) = (headedChecked true 16383 t ≡ Accepted) × (headed (formTable (body t)) ≡ u)
+Right (normal t u) = (headedChecked true 16383 t ≡ Accepted) × (headed (normalTable (body t)) ≡ u)
+Right (plain t u) = (headedChecked false 64 t ≡ Accepted) × (headed (plainTable (body t)) ≡ u)
 Right (refused t n p) = IsRefusal (headedChecked false 64 t) n p
 Right (refusedBy s t n p) = IsRefusal (first (s .checks t)) n p
-Right (class t b) = classByte (rule (body t)) ≡ b
-Right (judged t r bs) = (i : ℕ) → i < length bs → Holds (word r) (rule (body t)) i ↔ T (getD bs i false)
+Right (class t b) = (headedChecked true 16383 t ≡ Accepted) × (classByte (rule (body t)) ≡ b)
+Right (judged t r bs) = (headedChecked false 16383 t ≡ Accepted) × ((i : ℕ) → i < length bs → Holds (word r) (rule (body t)) i ↔ T (getD bs i false))
 
 -- a recording of two samples, looped at the second; and one sample for ever; both drive all 32 letters
 abbrev pub twice : ℕ → ℕ → Lasso
@@ -60,6 +60,7 @@ once a = record { samples = a ∷ []; start = 0; driven = 32; inside = lit< tt; 
 abbrev pub starred : List Case
 starred =
     form (0x001FC001 ∷ 0x30000001 ∷ []) (0x001FC001 ∷ 0x30000001 ∷ [])
+    ∷ normal (0x001FC001 ∷ 0x30000001 ∷ []) (0x001FC001 ∷ 0x30000001 ∷ [])
     ∷ normal (0x001E8003 ∷ 0x20000000 ∷ 0x30000001 ∷ 0x80004002 ∷ [])
     (0x00180008 ∷ 0x20000000 ∷ 0x30000001 ∷ 0x80004002 ∷ 0x10000000 ∷ 0x80004003 ∷ 0xA0010005 ∷ 0x5000C006 ∷ 0x6000C007 ∷ [])
     ∷ plain (0x00000003 ∷ 0x30000001 ∷ 0xD0000001 ∷ 0xC0000002 ∷ []) (0x001F0003 ∷ 0x10000000 ∷ 0x40000001 ∷ 0xA0004002 ∷ [])

@@ -1,13 +1,14 @@
 -- Every position of the words passed holds, so the first failing one is looked for from there on.
 use borrow.Author.Needs.{needs}
 use mathlib.Core.Path.{_≡_, sym, ap₂, _∙_}
-use Prim.Native.Nat.{_≤_, _-_, _*_, min}
+use Prim.Native.Nat.{ℕ, _≤_, _+_, _-_, _*_, min}
 use native.Mathlib.Omega.{arith}
 use lib.ListN.{length, getD}
 use Rattle.logic.specs.Truth.{Sequence}
 use Rattle.row_words.specs.Row as rows
-use lib.Bits.{bitXor}
-use lib.Count.{trailing-le}
+use mir.Syntax.{w64}
+use mir.Val.{Fits}
+use lib.Count.{trailingZeros, trailing-le}
 use Rattle.row_reading.proofs.Reading.{word-holds, word-fails, first-none}
 use Rattle.row_reading.proofs.first_failing.Statement.{statement}
 use Rattle.row_reading.proofs.first_failing.Tie as tie
@@ -27,11 +28,18 @@ loop-holds c =
     let l : L ≡ L - 0 * 64 = omega arith in
     (omega arith, λ f e. ap₂ (rows.firstFalse f) z l)
 
+-- at most 64 zeros fit, added to a small number too
+zeros-fit : (x : ℕ) → Fits w64 (trailingZeros 64 x)
+zeros-fit x = omega (arith, trailing-le 64 x)
+
+sum-fits : (n x : ℕ) → n ≤ 4096 → Fits w64 (n + trailingZeros 64 x)
+sum-fits n x h = omega (arith, trailing-le 64 x)
+
 cast-result : tie.Need-cast-result Inv-loop μ-loop
-cast-result c = omega (arith, trailing-le 64 (bitXor (c .before .before .ones .result) (getD (c .before .before .before .before .before .before .before .args .row .now) (c .before .before .before .before .before .loop .w) 0)))
+cast-result c = zeros-fit _
 
 add-result : tie.Need-add-result Inv-loop μ-loop
-add-result c = omega (arith, trailing-le 64 (bitXor (c .before .before .ones .result) (getD (c .before .before .before .before .before .before .before .args .row .now) (c .before .before .before .before .before .loop .w) 0)))
+add-result c = sum-fits _ _ (omega arith)
 
 returns : tie.Need-returns Inv-loop μ-loop
 returns c f e =
