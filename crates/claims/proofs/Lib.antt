@@ -1,2 +1,3 @@
 pub mod Plain
+pub mod FormStep
 pub mod Promise

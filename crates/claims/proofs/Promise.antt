@@ -1,19 +1,13 @@
 -- Demand 3 of the whole way, from what the two steps promise.
-use Prim.Native.Nat.{ℕ, _+_, _*_, _-_, _≤_, min}
-use mathlib.Core.Path.{_≡_, refl, ap, sym, subst, _∙_}
-use mathlib.Core.Logic.{_↔_, inl, inr, Iff·trans}
+use Prim.Native.Nat.{ℕ, _-_, _≤_, min}
+use mathlib.Core.Path.{_≡_, refl, ap, sym, _∙_}
+use mathlib.Core.Logic.{inl, inr, Iff·trans}
 use mathlib.Core.Bool.{Bool, true, false, true≢false}
 use mathlib.Core.List.{List, _++_}
 use native.Mathlib.Omega.{arith}
-use native.Mathlib.Nat.{sub-zero, le-refl, mul-le-mul}
+use native.Mathlib.Nat.{sub-zero}
 use lib.ListN.{length, take, drop}
-use lib.Pow.{pow-pos}
-use borrow.Author.Tests.{leb-true, le-leb}
-use Rattle.logic.specs.Letters.{Letters}
-use Rattle.logic.specs.Lasso.{Lasso, word}
-use Rattle.logic.specs.Semantics.{Holds}
-use Rattle.logic.specs.Driven.{Driven}
-use Rattle.logic.specs.Hierarchy.{Δ₂}
+use borrow.Author.Tests.{le-leb}
 use Rattle.refusals.specs.declared.Refusal.{Refusal}
 use Rattle.refusals.specs.declared.Refusal.the-variants.{ResultTooShort, LimitsOutside}
 use Rattle.refusals.specs.declared.Outcome.{Outcome}
@@ -24,25 +18,22 @@ use Rattle.table.specs.declared.answer.Form.{Form}
 use Rattle.table.specs.declared.answer.Form.the-variants as formed
 use Rattle.table.specs.declared.settings.Limits.{Limits}
 use Rattle.refusals.specs.Refusals.{Check, first, numberOf}
-use Rattle.table.specs.Limits.{isPermitted, plainLimit, mostWords}
+use Rattle.table.specs.Limits.{isPermitted, plainLimit}
 use Rattle.table.specs.Checks.{checked}
 use Rattle.table.specs.Header.{headed, body, headedChecks, headedChecked}
 use Rattle.table.specs.StepChecks.{limitChecks, resultFits}
-use Rattle.table.specs.Table.{rule}
-use Rattle.table.specs.Steps.{plainTable, fixpoints, isNormal, normalTable, formTable}
+use Rattle.table.specs.Steps.{plainTable, isNormal, normalTable}
 use Rattle.table.specs.Frame.{plainStep, formChecks, normalStep, answerOf, resultOf, answerNumber, formBy, formOf, formNumber, isSource}
 use Rattle.refusals.proofs.First.{first-append-accepted, first-append-refused}
 use Rattle.table.proofs.Stated.{permitted, permitted-checks, outside-checks, passed-limits}
 use Rattle.table.proofs.Accepted.{accepted-well-formed}
 use Rattle.table.proofs.Header.{accepted-headed, headed-accepted}
-use Rattle.numbering.proofs.Driven.{driven-exactly}
 use Rattle.table.proofs.Frame.{answered, refused-for-length, refused-answer, too-long-answer, made-answer, plain-early, normal-early}
-use Rattle.table.proofs.Normal.{normal-exactly, own-form, other-form, own-makes, other-checks, other-makes, form-checked, form-source, form-made, form-refused}
+use Rattle.table.proofs.Normal.{own-makes, other-checks, other-makes, form-checked, form-source, form-made, form-refused}
 use Rattle.plain_laws.proofs.Promise.{plain-holds, plain-accepted, plain-letters}
-use Rattle.normal_laws.proofs.Promise.{normal-holds, normal-Δ₂, normal-length, normal-letters}
 use Rattle.claims.specs.Whole.{formAfter, wholeForm, resultAfter, wholeResult}
-use Rattle.claims.specs.Claim.{bound, Kept, TooLong, Claim}
-use Rattle.claims.proofs.Plain.{normal-plain}
+use Rattle.claims.specs.Claim.{Kept, TooLong, Claim}
+use Rattle.claims.proofs.FormStep.{fitting-few, FormOf, forms, own-form-of, other-form-of, limited}
 
 -- no two answers at once
 never : {A : Type 0} (r : Refusal) (n : ℕ) → Refused r ≡ Made n → A
@@ -67,10 +58,6 @@ form-number l s slice = go (answerOf (normalStep l) s slice) (isNormal (body s))
     go (Made n) false = refl
     go (Refused r) b = refl
 
--- what fits a slice has no more than 16,384 words, and no more than the slice
-fitting-few : (words slice : ℕ) → resultFits words slice ≡ true → words ≤ min slice 16384
-fitting-few words slice e = leb-true _ _ e
-
 -- the part of the plain form's slice that is handed on: it lies within the slice, and is the plain form's table with its header
 module _ (l : Limits) (t before after : List ℕ) (n : ℕ) (e : answerOf (plainStep l) t (length before) ≡ Made n) where
   pub within : length after ≡ length before → n ≤ length after
@@ -78,37 +65,6 @@ module _ (l : Limits) (t before after : List ℕ) (n : ℕ) (e : answerOf (plain
 
   handed-on : after ≡ resultOf (plainStep l) t before → take (n - 0) (drop 0 after) ≡ headed (plainTable (body t))
   handed-on a = rw (sub-zero, a) (answered (plainStep l) t before n e .front)
-
--- the bound is above the length of the plain form too
-above : (n k : ℕ) → n ≤ bound n k
-above n k = omega (arith, mul-le-mul (pow-pos k) (le-refl (5 * n + 3 * k + 1)))
-
--- what is so of the words v of a form of t
-record Form-of (t v : List ℕ) : Type 1 where
-  pub words : v ≡ formTable (plainTable (body t))
-  pub taken : (b : Bool) → checked b 16383 v ≡ outcome.Accepted
-  pub holds : (r : Lasso) (i : ℕ) → Holds (word r) (rule v) i ↔ Holds (word r) (rule (body t)) i
-  pub class : Δ₂ (rule v)
-  pub short : length v ≤ bound (length (plainTable (body t))) (length (fixpoints (plainTable (body t))))
-  pub letters : (Q : ℕ → Type 0) → Letters Q (rule (body t)) → Letters Q (rule v)
-
--- is so of the words at the front of a slice
-keeps : (limit : ℕ) (t : List ℕ) {v slice : List ℕ} {n : ℕ} → checked false limit (body t) ≡ outcome.Accepted → Form-of t v → take n slice ≡ headed v → n ≡ length (headed v) → Kept t slice n
-keeps limit t {v} ok q w k = record {
-  words = w ∙ ap headed (q .words);
-  long = ap length w ∙ sym k;
-  holds = λ r d i. rw w (q .holds r i);
-  class = subst (λ (x : List ℕ). Δ₂ (rule (body x))) (sym w) (q .class);
-  short = rw w (q .short);
-  letters = λ m. rw w (q .letters (λ x. x ≡ m → ⊥));
-  drives = λ r. rw w (q .letters (Driven (r .driven)));
-  accepted = rw w (headed-accepted false 16383 v (omega arith) (q .taken false));
-  plain = rw w (headed-accepted true 16383 v (omega arith) (q .taken true));
-  driven = λ m e.
-      let source = accepted-well-formed false limit (body t) ok in
-      let made = accepted-well-formed false mostWords v (q .taken false) in
-      rw w (driven-exactly made m .1 (q .letters (Driven m) (driven-exactly source m .0 e)));
-}
 
 module _ (l : Limits) (t plain form : List ℕ) where
   -- what the plain-form step makes
@@ -127,17 +83,14 @@ module _ (l : Limits) (t plain form : List ℕ) where
     small : l .written ≤ 8190
     small = omega (arith, permitted l p .written)
 
-    limited : plainLimit l ≤ 16383
-    limited = omega (arith, small)
-
     written-words : checked false (l .written) (body t) ≡ outcome.Accepted
     written-words = accepted-headed false (l .written) t ok .words
 
     next-words : checked true (plainLimit l) (plainTable (body t)) ≡ outcome.Accepted
-    next-words = plain-accepted (l .written) (body t) written-words small true (plainLimit l) (omega arith) limited
+    next-words = plain-accepted (l .written) (body t) written-words small true (plainLimit l) (omega arith) (limited l p)
 
     next-accepted : headedChecked true (plainLimit l) u ≡ outcome.Accepted
-    next-accepted = headed-accepted true (plainLimit l) (plainTable (body t)) limited next-words
+    next-accepted = headed-accepted true (plainLimit l) (plainTable (body t)) (limited l p) next-words
 
     passed : first (plainStep l .checks t) ≡ outcome.Accepted
     unfolding headedChecked
@@ -146,26 +99,16 @@ module _ (l : Limits) (t plain form : List ℕ) where
     next-checks : first (normalStep l .checks u) ≡ first untilChecks
     next-checks = form-checked l u p next-accepted
 
-    -- the plain form where it is its own form, and the normal form of any other
-    own-form-of : isNormal (plainTable (body t)) ≡ true → Form-of t (plainTable (body t))
-    own-form-of n = record {
-      words = sym (own-form (plainTable (body t)) n);
-      taken = λ b. plain-accepted (l .written) (body t) written-words small b 16383 (omega (arith, small)) (omega arith);
-      holds = plain-holds (l .written) (body t) written-words small;
-      class = normal-exactly (plainTable (body t)) .0 n;
-      short = above (length (plainTable (body t))) (length (fixpoints (plainTable (body t))));
-      letters = plain-letters (l .written) (body t) written-words small;
-    }
-
-    other-form-of : isNormal (plainTable (body t)) ≡ false → length (normalTable (plainTable (body t))) ≤ 16383 → Form-of t (normalTable (plainTable (body t)))
-    other-form-of n few = record {
-      words = sym (other-form (plainTable (body t)) n);
-      taken = normal-plain (plainLimit l) (plainTable (body t)) next-words limited few;
-      holds = λ r i. Iff·trans (normal-holds (plainLimit l) (plainTable (body t)) next-words limited few r i) (plain-holds (l .written) (body t) written-words small r i);
-      class = normal-Δ₂ (plainLimit l) (plainTable (body t)) next-words limited few;
-      short = normal-length (plainLimit l) (plainTable (body t)) next-words limited;
-      letters = λ Q h. normal-letters (plainLimit l) (plainTable (body t)) next-words limited few Q (plain-letters (l .written) (body t) written-words small Q h);
-    }
+    -- a form of the plain form is one of the written rule, and stands at the front of a slice
+    keeps : {v slice : List ℕ} {n : ℕ} → FormOf (plainTable (body t)) (plainTable (body t)) v → take n slice ≡ headed v → n ≡ length (headed v) → Kept t slice n
+    keeps q = forms (accepted-well-formed false (l .written) (body t) written-words) (record {
+      words = q .words;
+      taken = q .taken;
+      holds = λ r i. Iff·trans (q .holds r i) (plain-holds (l .written) (body t) written-words small r i);
+      class = q .class;
+      short = q .short;
+      letters = λ Q h. q .letters Q (plain-letters (l .written) (body t) written-words small Q h);
+    })
 
   -- and that is so where the plain-form step's checks pass
   passes : first (plainStep l .checks t) ≡ outcome.Accepted → (isPermitted l ≡ true) × (headedChecked false (l .written) t ≡ outcome.Accepted)
@@ -195,7 +138,7 @@ module _ (l : Limits) (t plain form : List ℕ) where
           let both = passes (a .accepted) in
           let q = form-source l u form n (sym (whole-made m e .0) ∙ f) in
           let k : n ≡ m = q .long ∙ sym (a .long) in
-          keeps (l .written) t (written-words (both .0) (both .1)) (own-form-of (both .0) (both .1) (q .normal)) (rw k (a .front)) (q .long)
+          keeps (both .0) (both .1) (own-form-of (plainLimit l) (plainTable (body t)) (next-words (both .0) (both .1)) (limited l (both .0)) (q .normal)) (rw k (a .front)) (q .long)
 
   kept-made : (n : ℕ) → wholeForm l t (length plain) (length form) ≡ formed.Made n → Kept t (wholeResult l t (length plain) form) n
   kept-made n f = by-plain (answerOf (plainStep l) t (length plain)) refl
@@ -208,7 +151,7 @@ module _ (l : Limits) (t plain form : List ℕ) where
           let makes = other-makes l u (q .normal) in
           let k : n ≡ length (headed (normalTable (plainTable (body t)))) = q .made .long ∙ ap length makes in
           let few : length (normalTable (plainTable (body t))) ≤ 16383 = omega (arith, fitting-few n (length form) (q .made .fitting)) in
-          keeps (l .written) t (written-words (both .0) (both .1)) (other-form-of (both .0) (both .1) (q .normal) few) (rw (whole-made m e .1) (q .made .front ∙ makes)) k
+          keeps (both .0) (both .1) (other-form-of (plainLimit l) (plainTable (body t)) (next-words (both .0) (both .1)) (limited l (both .0)) (q .normal) few) (rw (whole-made m e .1) (q .made .front ∙ makes)) k
 
   -- to refuse for length is to answer 12; no words are made of a table that is its own form
   unfit-other : (b : Bool) → isNormal (plainTable (body t)) ≡ b → resultFits (length (normalStep l .makes u)) (length form) ≡ false → isNormal (plainTable (body t)) ≡ false
