@@ -45,7 +45,7 @@ fitting-few words slice e = leb-true _ _ e
 above : (n k : ℕ) → n ≤ bound n k
 above n k = omega (arith, mul-le-mul (pow-pos k) (le-refl (5 * n + 3 * k + 1)))
 
--- no table lies in Delta-2 and does not
+-- a table that is not its own form does not lie in Delta-2
 pub not-normal : (t : List ℕ) → isNormal t ≡ false → Δ₂ (rule t) → ⊥
 not-normal t n d = true≢false (sym (normal-exactly t .1 d) ∙ n)
 

@@ -3,13 +3,13 @@ use Prim.Native.Nat.{ℕ, _-_, _≤_, min}
 use mathlib.Core.Path.{_≡_, refl, ap, sym, _∙_}
 use mathlib.Core.Logic.{inl, inr, Iff·trans}
 use mathlib.Core.Bool.{Bool, true, false, true≢false}
-use mathlib.Core.List.{List, _++_}
+use mathlib.Core.List.{List}
 use native.Mathlib.Omega.{arith}
 use native.Mathlib.Nat.{sub-zero}
 use lib.ListN.{length, take, drop}
 use borrow.Author.Tests.{le-leb}
 use Rattle.refusals.specs.declared.Refusal.{Refusal}
-use Rattle.refusals.specs.declared.Refusal.the-variants.{ResultTooShort, LimitsOutside}
+use Rattle.refusals.specs.declared.Refusal.the-variants.{ResultTooShort}
 use Rattle.refusals.specs.declared.Outcome.{Outcome}
 use Rattle.refusals.specs.declared.Outcome.the-variants as outcome
 use Rattle.table.specs.declared.answer.Answer.{Answer}
@@ -25,15 +25,15 @@ use Rattle.table.specs.StepChecks.{limitChecks, resultFits}
 use Rattle.table.specs.Steps.{plainTable, isNormal, normalTable}
 use Rattle.table.specs.Frame.{plainStep, formChecks, normalStep, answerOf, resultOf, answerNumber, formBy, formOf, formNumber, isSource}
 use Rattle.refusals.proofs.First.{first-append-accepted, first-append-refused}
-use Rattle.table.proofs.Stated.{permitted, permitted-checks, outside-checks, passed-limits}
+use Rattle.table.proofs.Stated.{permitted, permitted-checks, passed-limits}
 use Rattle.table.proofs.Accepted.{accepted-well-formed}
 use Rattle.table.proofs.Header.{accepted-headed, headed-accepted}
-use Rattle.table.proofs.Frame.{answered, refused-for-length, refused-answer, too-long-answer, made-answer, plain-early, normal-early}
-use Rattle.table.proofs.Normal.{own-makes, other-checks, other-makes, form-checked, form-source, form-made, form-refused}
+use Rattle.table.proofs.Frame.{answered, refused-for-length, refused-answer, too-long-answer, made-answer, plain-early, fixpoint-refusal, normal-early}
+use Rattle.table.proofs.Normal.{normal-exactly, own-checks, own-makes, other-checks, other-makes, form-checked, Own, Other, form-source, form-made, form-refused}
 use Rattle.plain_laws.proofs.Promise.{plain-holds, plain-accepted, plain-letters}
 use Rattle.claims.specs.Whole.{formAfter, wholeForm, resultAfter, wholeResult}
-use Rattle.claims.specs.Claim.{Kept, TooLong, Claim}
-use Rattle.claims.proofs.FormStep.{fitting-few, FormOf, forms, own-form-of, other-form-of, limited}
+use Rattle.claims.specs.Claim.{Kept, TooLong, wholeChecks, Claim}
+use Rattle.claims.proofs.FormStep.{fitting-few, not-normal, FormOf, forms, own-form-of, other-form-of, limited}
 
 -- no two answers at once
 never : {A : Type 0} (r : Refusal) (n : ℕ) → Refused r ≡ Made n → A
@@ -127,31 +127,38 @@ module _ (l : Limits) (t plain form : List ℕ) where
   unfolding wholeForm wholeResult
   whole-made n e = (ap (λ (a : Answer). formAfter a l t (length form)) e, ap (λ (a : Answer). resultAfter a l t form) e)
 
-  -- an answered form: the plain form where it stands, or the form that was made
-  kept-source : (n : ℕ) → wholeForm l t (length plain) (length form) ≡ formed.Source n → Kept t (resultOf (plainStep l) t plain) n
-  kept-source n f = by-plain (answerOf (plainStep l) t (length plain)) refl
+  -- an answered form is told by the normal-form step, of a plain form that was made
+  told-source : (n : ℕ) → wholeForm l t (length plain) (length form) ≡ formed.Source n → (m : ℕ) × (answerOf (plainStep l) t (length plain) ≡ Made m) × Own l u form n
+  told-source n f = by-plain (answerOf (plainStep l) t (length plain)) refl
     where
-      by-plain : (p : Answer) → answerOf (plainStep l) t (length plain) ≡ p → Kept t (resultOf (plainStep l) t plain) n
+      by-plain : (p : Answer) → answerOf (plainStep l) t (length plain) ≡ p → (m : ℕ) × (answerOf (plainStep l) t (length plain) ≡ Made m) × Own l u form n
       by-plain (Refused r) e = refused-source (sym (whole-refused r e .0) ∙ f)
-      by-plain (Made m) e =
-          let a = answered (plainStep l) t plain m e in
-          let both = passes (a .accepted) in
-          let q = form-source l u form n (sym (whole-made m e .0) ∙ f) in
-          let k : n ≡ m = q .long ∙ sym (a .long) in
-          keeps (both .0) (both .1) (own-form-of (plainLimit l) (plainTable (body t)) (next-words (both .0) (both .1)) (limited l (both .0)) (q .normal)) (rw k (a .front)) (q .long)
+      by-plain (Made m) e = (m, e, form-source l u form n (sym (whole-made m e .0) ∙ f))
+
+  told-made : (n : ℕ) → wholeForm l t (length plain) (length form) ≡ formed.Made n → (m : ℕ) × (answerOf (plainStep l) t (length plain) ≡ Made m) × Other l u form n
+  told-made n f = by-plain (answerOf (plainStep l) t (length plain)) refl
+    where
+      by-plain : (p : Answer) → answerOf (plainStep l) t (length plain) ≡ p → (m : ℕ) × (answerOf (plainStep l) t (length plain) ≡ Made m) × Other l u form n
+      by-plain (Refused r) e = refused-made (sym (whole-refused r e .0) ∙ f)
+      by-plain (Made m) e = (m, e, form-made l u form n (sym (whole-made m e .0) ∙ f))
+
+  -- it is the plain form where it stands, or the form that was made
+  kept-source : (n : ℕ) → wholeForm l t (length plain) (length form) ≡ formed.Source n → Kept t (resultOf (plainStep l) t plain) n
+  kept-source n f =
+      let (m, e, q) = told-source n f in
+      let a = answered (plainStep l) t plain m e in
+      let both = passes (a .accepted) in
+      let k : n ≡ m = q .long ∙ sym (a .long) in
+      keeps (both .0) (both .1) (own-form-of (plainLimit l) (plainTable (body t)) (next-words (both .0) (both .1)) (limited l (both .0)) (q .normal)) (rw k (a .front)) (q .long)
 
   kept-made : (n : ℕ) → wholeForm l t (length plain) (length form) ≡ formed.Made n → Kept t (wholeResult l t (length plain) form) n
-  kept-made n f = by-plain (answerOf (plainStep l) t (length plain)) refl
-    where
-      by-plain : (p : Answer) → answerOf (plainStep l) t (length plain) ≡ p → Kept t (wholeResult l t (length plain) form) n
-      by-plain (Refused r) e = refused-made (sym (whole-refused r e .0) ∙ f)
-      by-plain (Made m) e =
-          let both = passes (answered (plainStep l) t plain m e .accepted) in
-          let q = form-made l u form n (sym (whole-made m e .0) ∙ f) in
-          let makes = other-makes l u (q .normal) in
-          let k : n ≡ length (headed (normalTable (plainTable (body t)))) = q .made .long ∙ ap length makes in
-          let few : length (normalTable (plainTable (body t))) ≤ 16383 = omega (arith, fitting-few n (length form) (q .made .fitting)) in
-          keeps (both .0) (both .1) (other-form-of (plainLimit l) (plainTable (body t)) (next-words (both .0) (both .1)) (limited l (both .0)) (q .normal) few) (rw (whole-made m e .1) (q .made .front ∙ makes)) k
+  kept-made n f =
+      let (m, e, q) = told-made n f in
+      let both = passes (answered (plainStep l) t plain m e .accepted) in
+      let makes = other-makes l u (q .normal) in
+      let k : n ≡ length (headed (normalTable (plainTable (body t)))) = q .made .long ∙ ap length makes in
+      let few : length (normalTable (plainTable (body t))) ≤ 16383 = omega (arith, fitting-few n (length form) (q .made .fitting)) in
+      keeps (both .0) (both .1) (other-form-of (plainLimit l) (plainTable (body t)) (next-words (both .0) (both .1)) (limited l (both .0)) (q .normal) few) (rw (whole-made m e .1) (q .made .front ∙ makes)) k
 
   -- to refuse for length is to answer 12; no words are made of a table that is its own form
   unfit-other : (b : Bool) → isNormal (plainTable (body t)) ≡ b → resultFits (length (normalStep l .makes u)) (length form) ≡ false → isNormal (plainTable (body t)) ≡ false
@@ -179,35 +186,49 @@ module _ (l : Limits) (t plain form : List ℕ) where
       ∙ form-number l u (length form)
       ∙ refused-for-length (normalStep l) (normal-early l) u form .1 (next-checks p ok ∙ ap first (other-checks l u (q .1)) ∙ q .2, rw (other-makes l u (q .1)) (q .3))
 
+  -- the check table is that of the plain-form step, and then that of its plain form
+  whole-refusal : (q : Refusal) → first (plainStep l .checks t) ≡ outcome.Refused q → first (wholeChecks l t) ≡ outcome.Refused q
+  unfolding limitChecks
+  whole-refusal q = first-append-refused (plainStep l .checks t) untilChecks q
+
+  whole-passed : first (plainStep l .checks t) ≡ outcome.Accepted → first (wholeChecks l t) ≡ first untilChecks
+  unfolding limitChecks
+  whole-passed = first-append-accepted (plainStep l .checks t) untilChecks
+
   -- any other refusal is that of the first check that applies
   module _ (r : Refusal) (a : wholeForm l t (length plain) (length form) ≡ formed.Refused r) (s : numberOf r ≡ 12 → ⊥) where
-    -- it is the plain-form step's, where that refuses by a check
-    first-step : (q : Refusal) → first (plainStep l .checks t) ≡ outcome.Refused q → q ≡ r
-    first-step q e = same-refusal q r (sym (whole-refused q (refused-answer (plainStep l) t plain q e) .0) ∙ a)
+    module _ (p : isPermitted l ≡ true) (ok : headedChecked false (l .written) t ≡ outcome.Accepted) where
+      by-until : formOf l u (length form) ≡ formed.Refused r → (o : Outcome) → first untilChecks ≡ o → first untilChecks ≡ outcome.Refused r
+      by-until b (outcome.Refused q) c =
+          c ∙ ap outcome.Refused (same-refusal q r (sym (form-refused l u form q .1 (refused-answer (normalStep l) u form q (next-checks p ok ∙ c))) ∙ b))
+      by-until b outcome.Accepted c = absurd (s (last (resultFits (length (normalStep l .makes u)) (length form)) refl))
+        where
+          last : (f : Bool) → resultFits (length (normalStep l .makes u)) (length form) ≡ f → numberOf r ≡ 12
+          last true f = never r _ (sym (form-refused l u form r .0 b) ∙ made-answer (normalStep l) u form (next-checks p ok ∙ c) f)
+          last false f = sym (ap answerNumber (form-refused l u form r .0 b)) ∙ refused-for-length (normalStep l) (normal-early l) u form .1 (next-checks p ok ∙ c, f)
 
-    module _ (p : isPermitted l ≡ true) where
-      module _ (ok : headedChecked false (l .written) t ≡ outcome.Accepted) where
-        by-until : formOf l u (length form) ≡ formed.Refused r → (o : Outcome) → first untilChecks ≡ o → first untilChecks ≡ outcome.Refused r
-        by-until b (outcome.Refused q) c =
-            c ∙ ap outcome.Refused (same-refusal q r (sym (form-refused l u form q .1 (refused-answer (normalStep l) u form q (next-checks p ok ∙ c))) ∙ b))
-        by-until b outcome.Accepted c = absurd (s (last (resultFits (length (normalStep l .makes u)) (length form)) refl))
-          where
-            last : (f : Bool) → resultFits (length (normalStep l .makes u)) (length form) ≡ f → numberOf r ≡ 12
-            last true f = never r _ (sym (form-refused l u form r .0 b) ∙ made-answer (normalStep l) u form (next-checks p ok ∙ c) f)
-            last false f = sym (ap answerNumber (form-refused l u form r .0 b)) ∙ refused-for-length (normalStep l) (normal-early l) u form .1 (next-checks p ok ∙ c, f)
+      by-fit : (f : Bool) → resultFits (length u) (length plain) ≡ f → first untilChecks ≡ outcome.Refused r
+      by-fit false f = absurd (s (sym (ap formNumber a) ∙ unfit p ok (inl f)))
+      by-fit true f = by-until (sym (whole-made (length u) (made-answer (plainStep l) t plain (passed p ok) f) .0) ∙ a) (first untilChecks) refl
 
-        by-fit : (f : Bool) → resultFits (length u) (length plain) ≡ f → first untilChecks ≡ outcome.Refused r
-        by-fit false f = absurd (s (sym (ap formNumber a) ∙ unfit p ok (inl f)))
-        by-fit true f = by-until (sym (whole-made (length u) (made-answer (plainStep l) t plain (passed p ok) f) .0) ∙ a) (first untilChecks) refl
+    by-checks : (o : Outcome) → first (plainStep l .checks t) ≡ o → first (wholeChecks l t) ≡ outcome.Refused r
+    by-checks (outcome.Refused q) e =
+        whole-refusal q e ∙ ap outcome.Refused (same-refusal q r (sym (whole-refused q (refused-answer (plainStep l) t plain q e) .0) ∙ a))
+    by-checks outcome.Accepted e = let both = passes e in whole-passed e ∙ by-fit (both .0) (both .1) (resultFits (length u) (length plain)) refl
 
-      by-table : (o : Outcome) → headedChecked false (l .written) t ≡ o → first (writtenChecks ++ untilChecks) ≡ outcome.Refused r
-      unfolding headedChecked
-      by-table (outcome.Refused q) e = first-append-refused writtenChecks untilChecks q e ∙ ap outcome.Refused (first-step q (permitted-checks l writtenChecks p ∙ e))
-      by-table outcome.Accepted e = first-append-accepted writtenChecks untilChecks e ∙ by-fit e (resultFits (length u) (length plain)) refl
+  -- the check table's refusal is the answer
+  until-refusal : (r : Refusal) → first untilChecks ≡ outcome.Refused r → (b : Bool) → isNormal (plainTable (body t)) ≡ b → numberOf r ≡ 11
+  until-refusal r c true n = let e = sym (ap first (own-checks l u n)) ∙ c in absurd (let z : _≡_ {A = ℕ} 0 1 = cc in omega arith)
+  until-refusal r c false n = fixpoint-refusal (l .fixpoints) (plainTable (body t)) r (sym (ap first (other-checks l u n)) ∙ c)
 
-    by-checks : (b : Bool) → isPermitted l ≡ b → first (limitChecks l ++ (writtenChecks ++ untilChecks)) ≡ outcome.Refused r
-    by-checks true p = permitted-checks l (writtenChecks ++ untilChecks) p ∙ by-table p (headedChecked false (l .written) t) refl
-    by-checks false p = outside-checks l (writtenChecks ++ untilChecks) p ∙ ap outcome.Refused (first-step LimitsOutside (outside-checks l writtenChecks p))
+  module _ (r : Refusal) (c : first (wholeChecks l t) ≡ outcome.Refused r) (k : numberOf r ≡ 11 → resultFits (length u) (length plain) ≡ true) where
+    refuses : (o : Outcome) → first (plainStep l .checks t) ≡ o → wholeForm l t (length plain) (length form) ≡ formed.Refused r
+    refuses (outcome.Refused q) e = let d = whole-refusal q e in whole-refused q (refused-answer (plainStep l) t plain q e) .0 ∙ ap formed.Refused (cc)
+    refuses outcome.Accepted e =
+        let both = passes e in
+        let d : first untilChecks ≡ outcome.Refused r = sym (whole-passed e) ∙ c in
+        whole-made (length u) (made-answer (plainStep l) t plain e (k (until-refusal r d (isNormal (plainTable (body t))) refl))) .0
+        ∙ form-refused l u form r .1 (refused-answer (normalStep l) u form r (next-checks (both .0) (both .1) ∙ d))
 
   -- the claim, of the answer and the slices that the definitions name
   pub claim : Claim l t plain (resultOf (plainStep l) t plain) form (wholeResult l t (length plain) form) (wholeForm l t (length plain) (length form))
@@ -216,9 +237,12 @@ module _ (l : Limits) (t plain form : List ℕ) where
     plain-slice = refl;
     form-slice = refl;
     kept-source = kept-source;
+    own-source = λ n f. normal-exactly (plainTable (body t)) .0 (told-source n f .2 .normal);
     kept-made = kept-made;
+    other-made = λ n f. not-normal (plainTable (body t)) (told-made n f .2 .normal);
     refused-for-length = (λ a. too-long a (answerOf (plainStep l) t (length plain)) refl, λ q. unfit (q .0) (q .1) (q .2));
-    refused-by-checks = λ r a s. by-checks r a s (isPermitted l) refl;
+    refused-by-checks = λ r a s. by-checks r a s (first (plainStep l .checks t)) refl;
+    checks-refuse = λ r c k. refuses r c k (first (plainStep l .checks t)) refl;
   }
 
   claimed : {plain′ form′ : List ℕ} {f : Form} → f ≡ wholeForm l t (length plain) (length form) → plain′ ≡ resultOf (plainStep l) t plain
