@@ -1,13 +1,14 @@
 -- The promises of reading a text, said by the grammar: the reader is the grammar, the reply is the one that the grammar asks for, and the
--- table that is made passes the checks of the plain-form step.
+-- table that is made means the text, and passes the checks of the plain-form step.
 use Prim.Native.Nat.{ℕ, _≤_, _<_}
 use native.Mathlib.Omega.{arith}
-use mathlib.Core.Path.{_≡_, refl, sym, ap, subst₂, _∙_}
+use mathlib.Core.Path.{_≡_, refl, sym, ap, subst, subst₂, _∙_}
 use mathlib.Core.Logic.{_↔_, ⊎-elim}
 use mathlib.Core.Bool.{Bool, true, false, true≢false}
 use mathlib.Core.List.{List, _++_}
 use mathlib.Core.Option.{Option, none, some}
-use lib.ListN.{length, drop}
+use lib.ListN.{length, take, drop}
+use borrow.Author.Tests.{ltb-false}
 use Rattle.logic.specs.Formula.{Formula}
 use Rattle.logic.proofs.Numbers.{lt-or-le}
 use Rattle.refusals.specs.declared.Refusal.the-variants.{NotGrammar}
@@ -15,17 +16,23 @@ use Rattle.refusals.specs.declared.Outcome.the-variants.{Accepted}
 use Rattle.table.specs.declared.answer.Answer.{Answer}
 use Rattle.table.specs.declared.answer.Answer.the-variants.{Made, Refused}
 use Rattle.table.specs.declared.settings.Limits.{Limits}
+use Rattle.refusals.specs.Refusals.{first}
 use Rattle.table.specs.Limits.{isPermitted}
+use Rattle.table.specs.Table.{rule}
 use Rattle.table.specs.Checks.{checked}
 use Rattle.table.specs.Numbering.{tableOf}
-use Rattle.table.specs.Header.{headed, headedChecked}
+use Rattle.table.specs.Header.{headed, body, headedChecked}
 use Rattle.table.proofs.Header.{headed-accepted}
 use Rattle.table.specs.Frame.{answerOf, resultOf}
+use Rattle.refusals.proofs.First.{Passed, first-passed}
+use Rattle.table.proofs.Stated.{permitted as within, passed-limits}
+use Rattle.table.proofs.Frame.{Answered, answered}
 use Rattle.logic.specs.Letters.{Letters}
-use Rattle.numbering.proofs.Accepted.{accepted-written}
+use Rattle.numbering.proofs.Accepted.{plain-small, accepted-written}
+use Rattle.numbering.proofs.Used.{rule-tableOf}
 use Rattle.grammar.specs.Grammar.{Symbol, Rule, constant-rule, letter-rule, prefixed, bracketed, Reads, Departs}
-use Rattle.grammar.specs.Reader.{readingOf, departureOf}
-use Rattle.text.specs.Text.{textStep}
+use Rattle.grammar.specs.Reader.{isNone, readingOf, departureOf}
+use Rattle.text.specs.Text.{tableBy, textTable, readStep, textStep}
 use Rattle.text.specs.Reply.{Read, too-long, departing, too-many, too-short, table, Reply, outside, permitted}
 use Rattle.grammar.proofs.Complete.{complete, one-reading}
 use Rattle.grammar.proofs.Sound.{sound}
@@ -126,3 +133,50 @@ text-words-accepted {φ = φ} r limit = accepted-written limit φ (rule-letters 
 pub text-accepted : {text : List ℕ} {φ : Formula} → Reads text φ → (limit : ℕ) → length (tableOf φ) ≤ limit → limit ≤ 16383
     → headedChecked false limit (headed (tableOf φ)) ≡ Accepted
 text-accepted {φ = φ} r limit few small = headed-accepted false limit (tableOf φ) small (text-words-accepted r limit few small)
+
+-- the rule of a text's table is the formula that the text is related to
+text-rule : {text : List ℕ} {φ : Formula} → Reads text φ → length (tableOf φ) ≤ 256 → rule (tableOf φ) ≡ φ
+text-rule {φ = φ} r few = rule-tableOf φ (plain-small φ (rule-letters (r .rule))) (omega arith)
+
+-- what an answer tells: the table of the text's formula, with its header, stands at the front of the slice, and has few words
+record Told (l : Limits) (text front : List ℕ) : Type 0 where
+  formula : Formula
+  reads : Reads text formula
+  words : front ≡ headed (tableOf formula)
+  few : length (tableOf formula) ≤ l .written
+  small : l .written ≤ 256
+
+-- of every answered call
+module _ (l : Limits) (text slice : List ℕ) (n : ℕ) (made : answerOf (textStep l) text (length slice) ≡ Made n) where
+  told : Told l text (take n (resultOf (textStep l) text slice))
+  unfolding textTable
+  told = by-reading (readingOf text) refl
+    where
+      a : Answered (textStep l) text slice n
+      a = answered (textStep l) text slice n made
+
+      b : (isPermitted l ≡ true) × (first (readStep (l .written) .checks text) ≡ Accepted)
+      b = passed-limits l (readStep (l .written) .checks text) (a .accepted)
+
+      p : Passed (readStep (l .written) .checks text)
+      p = first-passed (readStep (l .written) .checks text) (b .1)
+
+      by-reading : (o : Option Formula) → readingOf text ≡ o → Told l text (take n (resultOf (textStep l) text slice))
+      by-reading none e = absurd (true≢false (sym (ap isNone e) ∙ p .1 .0))
+      by-reading (some φ) e = record {
+        formula = φ;
+        reads = sound text φ e;
+        words = a .front ∙ ap (λ (x : Option Formula). headed (tableBy x)) e;
+        few = rw (← ap tableBy e) (ltb-false (l .written) (length (tableBy (readingOf text))) (p .1 .1 .0));
+        small = within l (b .0) .written;
+      }
+
+  -- the text is related to the rule of the table, and to no other formula (`one-reading`)
+  pub made-reads : Reads text (rule (body (take n (resultOf (textStep l) text slice))))
+  made-reads =
+      let q = told in
+      subst (Reads text) (sym (ap (λ (t : List ℕ). rule (body t)) (q .words) ∙ text-rule (q .reads) (omega (arith, q .few, q .small)))) (q .reads)
+
+  -- the plain-form step takes it
+  pub made-accepted : headedChecked false (l .written) (take n (resultOf (textStep l) text slice)) ≡ Accepted
+  made-accepted = let q = told in rw (q .words) (text-accepted (q .reads) (l .written) (q .few) (omega (arith, q .small)))
