@@ -1,4 +1,5 @@
--- A form and its written rule before the judge: wherever the row call takes the rule it takes the form, given the room, and both get the same answer.
+-- A form and its rule before the judge, a written rule or a plain table that was handed in: wherever the row call takes the rule it takes the form, given the
+-- room, and both get the same answer.
 use Prim.Native.Nat.{ℕ, _*_, _≤_}
 use mathlib.Core.Path.{_≡_, ap, fun-ext}
 use mathlib.Core.Logic.{Iff·symm, Iff·trans}
@@ -13,13 +14,13 @@ use Rattle.table.specs.Table.{rule}
 use Rattle.table.specs.Header.{body}
 use Rattle.table.proofs.Header.{accepted-headed}
 use Rattle.row_words.specs.Row.{row, rowWords}
-use Rattle.claims.specs.Claim.{Kept}
+use Rattle.claims.specs.FormStep.{Formed}
 use Rattle.judging.specs.Judging.{lassoOf, rowOf, judgement, rowOutcome, lastRow}
 use Rattle.judge_conditions.proofs.Outcomes.{judgeable-accepted}
 use Rattle.judging.proofs.Accepted.{accepted-facts}
 use Rattle.judge_laws.proofs.Promise.{rule-drives}
 
-module _ (t form : List ℕ) (n : ℕ) (kept : Kept t form n) (samples : List ℕ) (start driven : ℕ) (scratch : List ℕ)
+module _ (t p form : List ℕ) (n : ℕ) (kept : Formed t p form n) (samples : List ℕ) (start driven : ℕ) (scratch : List ℕ)
     (accepted : rowOutcome t samples start driven scratch ≡ Accepted) where
   -- a scratch that has the words of its rows is all that the form still needs
   pub form-accepted : (scratch′ : List ℕ) → length (body (take n form)) * rowWords (length samples) ≤ length scratch′ → rowOutcome (take n form) samples start driven scratch′ ≡ Accepted
