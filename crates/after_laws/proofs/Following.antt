@@ -8,6 +8,7 @@ use mathlib.Core.Logic.{_↔_, Iff·rfl, Iff·trans}
 use mathlib.Core.List.{List, _∷_}
 use lib.ListN.{length, getD, replicate}
 use Rattle.logic.specs.Lasso.{Word, letterIn}
+use Rattle.logic.specs.Driven.{SameBits}
 use Rattle.logic.specs.Semantics.{Holds}
 use Rattle.refusals.specs.declared.Refusal.{Refusal}
 use Rattle.refusals.specs.declared.Refusal.the-variants.{ResultTooShort}
@@ -21,7 +22,7 @@ use Rattle.table.specs.StepChecks.{resultFits}
 use Rattle.table.specs.Frame.{afterStep, outcomeOf, answerOf, resultOf, answerNumber}
 use Rattle.table.proofs.Frame.{refused-answer, refused-result, made-answer, too-long-answer, too-long-result, refused-for-length}
 use Rattle.table.proofs.AfterStep.{table-accepted, after-early}
-use Rattle.after_laws.specs.Remaining.{SameBits, Remaining}
+use Rattle.after_laws.specs.Remaining.{Remaining}
 use Rattle.after_laws.specs.Run.{Step, Run, none, step, From}
 use Rattle.after_laws.proofs.Promise.{same-table, made-remaining}
 

@@ -10,7 +10,7 @@ use borrow.Author.Tests.{le-leb, leb-true}
 use Rattle.logic.specs.Formula.{Formula}
 use Rattle.logic.specs.Lasso.{Word}
 use Rattle.logic.specs.Letters.{Letters}
-use Rattle.logic.specs.Driven.{Driven}
+use Rattle.logic.specs.Driven.{Driven, SameBits}
 use Rattle.logic.specs.Semantics.{Holds}
 use Rattle.transforms.specs.Folding.{fold}
 use Rattle.transforms.specs.After.{after}
@@ -33,7 +33,7 @@ use Rattle.numbering.proofs.Used.{rule-tableOf}
 use Rattle.numbering.proofs.Accepted.{Plain, plain-small, accepted-tableOf}
 use Rattle.numbering.proofs.Driven.{driven-exactly}
 use Rattle.normal_laws.proofs.Subformulas.{rule-plain}
-use Rattle.after_laws.specs.Remaining.{SameBits, Remaining}
+use Rattle.after_laws.specs.Remaining.{Remaining}
 use Rattle.after_laws.proofs.Length.{after-short}
 
 -- the words that are left of accepted words

@@ -5,9 +5,9 @@ use mathlib.Core.Path.{_≡_}
 use mathlib.Core.Logic.{_↔_}
 use mathlib.Core.Bool.{true}
 use mathlib.Core.List.{List}
-use Rattle.logic.specs.Lasso.{Word, letterIn}
+use Rattle.logic.specs.Lasso.{Word}
 use Rattle.logic.specs.Letters.{Lacks}
-use Rattle.logic.specs.Driven.{Driven}
+use Rattle.logic.specs.Driven.{SameBits}
 use Rattle.logic.specs.Semantics.{Holds}
 use Rattle.refusals.specs.declared.Outcome.the-variants.{Accepted}
 use Rattle.refusals.specs.Refusals.{first}
@@ -15,10 +15,6 @@ use Rattle.table.specs.Table.{rule}
 use Rattle.table.specs.Header.{headed, body, headedChecked}
 use Rattle.table.specs.StepChecks.{sampleChecks}
 use Rattle.table.specs.Steps.{afterTable}
-
--- samples that have the same driven bits; the other bits may be anything
-abbrev pub SameBits : (driven v w : ℕ) → Type 0
-SameBits driven v w = (n : ℕ) → Driven driven n → letterIn v n ≡ letterIn w n
 
 pub record Remaining (v driven : ℕ) (s u : List ℕ) : Type 0 where
   -- the defined words under their header, which are an accepted plain table

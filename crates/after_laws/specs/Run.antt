@@ -4,9 +4,9 @@ use mathlib.Core.Path.{_≡_}
 use mathlib.Core.List.{List, [], _∷_}
 use lib.ListN.{length, getD, take}
 use Rattle.logic.specs.Lasso.{Word}
+use Rattle.logic.specs.Driven.{SameBits}
 use Rattle.table.specs.declared.answer.Answer.the-variants.{Made}
 use Rattle.table.specs.Frame.{afterStep, answerOf, resultOf}
-use Rattle.after_laws.specs.Remaining.{SameBits}
 
 -- one step: in some slice n words were made of s, and u is these
 pub record Step (v driven : ℕ) (s u : List ℕ) : Type 0 where

@@ -5,6 +5,7 @@ pub mod Occurring
 pub mod Once
 pub mod Closed
 pub mod MoveModels
+pub mod Letters
 pub mod Complete
 pub mod Examples
 pub mod Promise

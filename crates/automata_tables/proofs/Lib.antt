@@ -2,4 +2,5 @@
 pub mod Numbers
 pub mod States
 pub mod Promise
+pub mod Letters
 pub mod Examples

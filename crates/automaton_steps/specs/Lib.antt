@@ -1,2 +1,3 @@
--- The calls of a watching automaton as steps.
+-- The calls of a watching automaton as steps, and what they tell where they are answered.
 pub mod Steps
+pub mod Watching
