@@ -8,6 +8,8 @@ use mathlib.Core.List.{List}
 use lib.ListN.{length, getD, set, length-set}
 use lib.Seq.{getD-set-other}
 use lib.Dec.{T}
+use mir.Syntax.{w64}
+use mir.Val.{Fits}
 use Rattle.logic.specs.Formula.{Formula, const, lit, un, bin}
 use Rattle.logic.specs.NegationNormalForm as form
 use Rattle.table.specs.Node.{Shape, constant, letter, unary, binary, kindOf}
@@ -59,6 +61,20 @@ module _ (d : List ℕ) (k s : ℕ) (empty : getD d k 0 ≡ 0) where
 -- every slot is in the draft
 pub slot-inside : {t d : List ℕ} {j : ℕ} (p : Bool) → Asked t d j → slotOf p j < length d
 slot-inside {j = j} p q = omega (arith, slot-bounds p j .1, q .word .inside, q .slots)
+
+-- the slots' numbers fit, and their places too
+module _ {t d : List ℕ} {j : ℕ} (q : Asked t d j) where
+  pub even-fits : Fits w64 (2 * j)
+  even-fits = omega (arith, q .word .inside, q .slots, q .few)
+
+  pub odd-fits : Fits w64 (2 * j + 1)
+  odd-fits = omega (arith, q .word .inside, q .slots, q .few)
+
+  pub even-place : Fits w64 (2 * j * 8)
+  even-place = omega (arith, q .word .inside, q .slots, q .few)
+
+  pub odd-place : Fits w64 ((2 * j + 1) * 8)
+  odd-place = omega (arith, q .word .inside, q .slots, q .few)
 
 -- the form of a word, stored at its own slot
 pub stored-form : {t d e : List ℕ} {s x : ℕ} (p : Bool) (j : ℕ) → Asked t d j → getD d (slotOf p j) 0 ≡ 0 → Stored d e (slotOf p j) s x

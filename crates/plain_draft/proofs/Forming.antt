@@ -26,6 +26,9 @@ use Rattle.plain_draft.proofs.Filling.{slot-inside, drafted-kept, store
 pub right-earlier : {t : List ℕ} {j k l r : ℕ} → WordAt t j k l r → 5 ≤ k → Earlier r j
 right-earlier {k = k} word h = word .right-operand (right-by (shape k) (omega (arith, kindOf-shape k (word .below))))
 
+pub not-earlier : {t : List ℕ} {j k l r : ℕ} → WordAt t j k l r → k ≡ 12 → Earlier r j
+not-earlier word h = right-earlier word (omega arith)
+
 -- the form of a word, by the operator that its kind stands for
 module _ (u : Unary) {t : List ℕ} {j k l r : ℕ} (word : WordAt t j k l r) (e : k ≡ unaryKind u) where
   unary-of : (p : Bool) → formOf p t j ≡ form.plain p (un u (formulaOf (formulas t) r))
@@ -45,16 +48,21 @@ operator p {k = k} w c = operator-by p (shape k) (rw (kindOf-shape k (w .below))
 pub left-operator : {t : List ℕ} {j k l r : ℕ} → WordAt t j k l r → IsOperator k → Earlier l j
 left-operator w c = w .left-operand (operator true w c .left-operand)
 
--- slot a holds what stands left of the right operand's form, at slot b: with both, the form of word j can be stored
+-- a and b are what the slot of word j has to hold in its two fields: with them its form can be stored
 pub record Ready (p : Bool) (t : List ℕ) (j k : ℕ) (d e : List ℕ) (a b : ℕ) : Type 0 where
+  pub inside : slotOf p j < length e
   pub small : a < 1048576
+  pub right-small : b < 1048576
   pub long : length e ≡ length d
   pub formed : {f : List ℕ} {x y : ℕ} → x ≡ signedKind p k → Stored e f (slotOf p j) (pack x a b) y → Formed p t j d f y
+
+pub ready-at : {p : Bool} {t : List ℕ} {j k : ℕ} {d e f : List ℕ} {a b x y : ℕ} → f ≡ e → x ≡ a → y ≡ b → Ready p t j k d e a b → Ready p t j k d f x y
+ready-at e a b r = rw (e, a, b) r
 
 -- word j, read, for its form (true) or that of its denial (false), whose slot is empty
 module _ {p : Bool} {t d : List ℕ} {j k l r : ℕ} (asked : Asked t d j) (word : WordAt t j k l r) (empty : getD d (slotOf p j) 0 ≡ 0) where
   -- a constant or a letter
-  pub leaf-formed : {e : List ℕ} {n x : ℕ} → k < 5 → n ≡ signedKind p k → Stored d e (slotOf p j) (pack n 0 r) x → Formed p t j d e x
+  leaf-formed : {e : List ℕ} {n x : ℕ} → k < 5 → n ≡ signedKind p k → Stored d e (slotOf p j) (pack n 0 r) x → Formed p t j d e x
   unfolding signedKind
   leaf-formed {e} {n} {x} h c q =
       let e : kindOf (shape k) ≡ k = kindOf-shape k (word .below) in
@@ -62,6 +70,9 @@ module _ {p : Bool} {t d : List ℕ} {j k l r : ℕ} (asked : Asked t d j) (word
       stored-form p j asked empty q (
       subst (λ (φ : Formula). Drafted (set d (slotOf p j) (pack n 0 r)) (form.plain p φ) (slotOf p j)) (sym (word .formula)) (f (rw (← c) (slot-set d (slotOf p j) (pack n 0 r) (slot-inside p asked))))
       )
+
+  pub leaf-ready : k ≤ 4 → Ready p t j k d d 0 r
+  leaf-ready h = record { inside = slot-inside p asked; small = omega arith; right-small = omega (arith, word .right-fits); long = refl; formed = leaf-formed (omega arith) }
 
   -- the denial's form is that of the operand
   pub not-formed : {e : List ℕ} {x : ℕ} → k ≡ 12 → Formed (not p) t r d e x → Formed p t j d e x
@@ -120,7 +131,7 @@ module _ {p : Bool} {t d : List ℕ} {j k l r : ℕ} (asked : Asked t d j) (word
 
   -- what stands left of the right operand's form, by the word's kind: nothing at X
   pub next-ready : {e : List ℕ} {b : ℕ} → k ≡ 7 → Formed p t r d e b → Ready p t j k d e 0 b
-  next-ready h u = record { small = omega arith; long = u .long; formed = next-formed h u }
+  next-ready h u = record { inside = omega (arith, slot-inside p asked, u .long); small = omega arith; right-small = omega (arith, u .inside, asked .few); long = u .long; formed = next-formed h u }
 
   -- F a is true U a, and G a is false R a
   pub finally-ready : {e : List ℕ} {b : ℕ} → k ≡ 13 → Formed p t r d e b → Ready p t j k d e (slotOf (not p) 0) b
@@ -129,7 +140,9 @@ module _ {p : Bool} {t d : List ℕ} {j k l r : ℕ} (asked : Asked t d j) (word
       let m = right-earlier word (omega arith) in
       let f = constant-formed (not p) (asked-then asked u) in
       record {
+        inside = omega (arith, slot-inside p asked, u .long);
         small = omega (arith, f .inside, asked .few, u .long);
+        right-small = omega (arith, u .inside, asked .few);
         long = u .long;
         formed = λ c. binary-formed (form.signed p until) (unary-of finally word h p ∙ rw (constant-form p t .1)) (omega (arith, m .below)) (m .below) u f (c ∙ rw (h, shape-unary finally));
       }
@@ -140,7 +153,9 @@ module _ {p : Bool} {t d : List ℕ} {j k l r : ℕ} (asked : Asked t d j) (word
       let m = right-earlier word (omega arith) in
       let f = constant-formed p (asked-then asked u) in
       record {
+        inside = omega (arith, slot-inside p asked, u .long);
         small = omega (arith, f .inside, asked .few, u .long);
+        right-small = omega (arith, u .inside, asked .few);
         long = u .long;
         formed = λ c. binary-formed (form.signed p release) (unary-of globally word h p ∙ rw (constant-form p t .0)) (omega (arith, m .below)) (m .below) u f (c ∙ rw (h, shape-unary globally));
       }
@@ -149,7 +164,9 @@ module _ {p : Bool} {t d : List ℕ} {j k l r : ℕ} (asked : Asked t d j) (word
   pub implies-ready : {e f : List ℕ} {a b : ℕ} → k ≡ 15 → Formed p t r d e b → Formed (not p) t l e f a → Ready p t j k d f a b
   unfolding form.plain signedKind
   implies-ready h u v = record {
+    inside = omega (arith, slot-inside p asked, u .long, v .long);
     small = omega (arith, v .inside, asked .few, u .long);
+    right-small = omega (arith, u .inside, asked .few);
     long = v .long ∙ u .long;
     formed = λ c. binary-formed (form.signed p disj) (binary-of implies word h p) (left-binary implies word h .below) (right-earlier word (omega arith) .below) u v (c ∙ rw (h, shape-binary implies));
   }
@@ -160,7 +177,9 @@ module _ {p : Bool} {t d : List ℕ} {j k l r : ℕ} (asked : Asked t d j) (word
   operator-ready o u v =
       let w = operator p word o in
       record {
+        inside = omega (arith, slot-inside p asked, u .long, v .long);
         small = omega (arith, v .inside, asked .few, u .long);
+        right-small = omega (arith, u .inside, asked .few);
         long = v .long ∙ u .long;
         formed = λ c. binary-formed (w .operator) (ap (form.plain p) (word .formula) ∙ w .form r (formulaOf (formulas t) l) (formulaOf (formulas t) r)) (left-operator word o .below) (right-earlier word (o .above) .below) u v (c ∙ w .kinded);
       }

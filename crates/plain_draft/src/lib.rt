@@ -21,25 +21,23 @@ pub fn wanted(table: &[u32], draft: &mut [u64], j: usize) -> usize
     }
     let w = source::read(table, j);
     let kind = w.kind;
-    let left = w.left;
-    let right = w.right;
-    let plain = kinds::plain(kind);
-    if kind < 5 {
-        return slot::store(draft, slot, plain, 0, right);
-    }
+    let mut a = 0;
+    let mut b = w.right;
     if kind != 12 {
-        let b = wanted(table, draft, right);
-        let a = match kind {
-            7 => 0,
-            13 => TRUE,
-            14 => FALSE,
-            15 => denied(table, draft, left),
-            _ => wanted(table, draft, left),
-        };
-        slot::store(draft, slot, plain, a, b)
+        if 4 < kind {
+            b = wanted(table, draft, w.right);
+            match kind {
+                7 => {}
+                13 => a = TRUE,
+                14 => a = FALSE,
+                15 => a = denied(table, draft, w.left),
+                _ => a = wanted(table, draft, w.left),
+            }
+        }
     } else {
-        denied(table, draft, right)
+        return denied(table, draft, b);
     }
+    slot::store(draft, slot, kinds::plain(kind), a, b)
 }
 
 // The slot at which the plain form of the denial of word j stands.
@@ -53,23 +51,21 @@ pub fn denied(table: &[u32], draft: &mut [u64], j: usize) -> usize
     }
     let w = source::read(table, j);
     let kind = w.kind;
-    let left = w.left;
-    let right = w.right;
-    let dual = kinds::dual(kind);
-    if kind < 5 {
-        return slot::store(draft, slot, dual, 0, right);
-    }
+    let mut a = 0;
+    let mut b = w.right;
     if kind != 12 {
-        let b = denied(table, draft, right);
-        let a = match kind {
-            7 => 0,
-            13 => FALSE,
-            14 => TRUE,
-            15 => wanted(table, draft, left),
-            _ => denied(table, draft, left),
-        };
-        slot::store(draft, slot, dual, a, b)
+        if 4 < kind {
+            b = denied(table, draft, w.right);
+            match kind {
+                7 => {}
+                13 => a = FALSE,
+                14 => a = TRUE,
+                15 => a = wanted(table, draft, w.left),
+                _ => a = denied(table, draft, w.left),
+            }
+        }
     } else {
-        wanted(table, draft, right)
+        return wanted(table, draft, b);
     }
+    slot::store(draft, slot, kinds::dual(kind), a, b)
 }
