@@ -98,7 +98,7 @@ module _ (t samples samples′ : List ℕ) (start driven : ℕ) (scratch : List 
       driven = counts ∙ sym (ap (λ (x : Lasso). x .driven) (i′ .2));
       bits = λ k n d.
           ap (λ (v : ℕ). letterIn v n) (accepted-word t samples start driven scratch accepted k)
-          ∙ alike .bits (place (length samples) start k) n (place-lt (length samples) start k (i .0)) (subst (λ (m : ℕ). Driven m n) counts d)
+          ∙ alike .bits (place (length samples) start k) (place-lt (length samples) start k (i .0)) n (subst (λ (m : ℕ). Driven m n) counts d)
           ∙ ap (λ (m : ℕ). letterIn (getD samples′ (place m start k) 0) n) (alike .long)
           ∙ sym (ap (λ (v : ℕ). letterIn v n) (accepted-word t samples′ start driven scratch accepted′ k));
     }

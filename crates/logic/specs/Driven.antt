@@ -21,4 +21,4 @@ SameBits driven v w = (n : ℕ) → Driven driven n → letterIn v n ≡ letterI
 -- the other bits may be anything
 pub record Agree (r r′ : Lasso) : Type 0 where
   pub driven : r .driven ≡ r′ .driven
-  pub bits : (i n : ℕ) → Driven (r .driven) n → letterIn (word r i) n ≡ letterIn (word r′ i) n
+  pub bits : (i : ℕ) → SameBits (r .driven) (word r i) (word r′ i)
