@@ -1,4 +1,6 @@
 // The step by a sample: a plain table goes in, and the table of what remains of its rule comes out at the front of the result.
+#![tactic(auto)]
+
 ghost use Rattle.std.specs.Prelude.{◌≡◌, length};
 ghost use Rattle.table.specs.Frame.{after_step, answer_of, result_of};
 

@@ -1,4 +1,6 @@
 // The checks of a table that is stepped by a sample.
+#![tactic(auto)]
+
 ghost use Rattle.std.specs.Prelude.{◌≡◌, true, ◌++◌};
 ghost use Rattle.refusals.specs.Refusals.{first};
 ghost use Rattle.table.specs.Header.{body, headed_checks};

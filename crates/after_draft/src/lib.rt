@@ -1,4 +1,6 @@
 // The draft of a step by a sample, in one rising pass over a table's words.
+#![tactic(auto)]
+
 ghost use Rattle.std.specs.Prelude.{length};
 ghost use Rattle.after_draft.specs.Filling.{Room, Filled, Next};
 

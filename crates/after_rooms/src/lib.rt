@@ -1,4 +1,6 @@
 // A draft of the size that the table can need, filled and numbered: short tables pay for no more.
+#![tactic(auto)]
+
 ghost use Rattle.placing.specs.Written.{Written};
 ghost use Rattle.table.specs.Steps.{after_table};
 ghost use Rattle.after_rooms.specs.Rooms.{Asked};

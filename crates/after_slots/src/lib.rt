@@ -1,5 +1,7 @@
 // The slots of a word and of its step by a sample, each folded as it is stored. Word j has the slots 3j, its own, 3j + 1, the inner word that the step of
 // U, W, R or M needs, and 3j + 2, its step. Those of U, W, R and M are `fixpoint_slots`.
+#![tactic(auto)]
+
 ghost use Rattle.std.specs.Prelude.{◌+◌, ◌*◌, ◌<◌, ◌≡◌, length};
 ghost use Rattle.slots.specs.Slot.{pack};
 ghost use Rattle.after_slots.specs.Slots as after;

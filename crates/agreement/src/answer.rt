@@ -2,7 +2,7 @@
 use refusals::Refusal;
 
 // The same driven bits at every moment, the first moment at which they differ, or why nothing was compared.
-#[derive(Drop)]
+#[derive(Clone, Copy)]
 pub enum Comparison {
     Same,
     Differ(usize),

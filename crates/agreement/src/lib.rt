@@ -1,2 +1,4 @@
 // What a comparison of two recordings answers, whoever makes it; no code.
+#![tactic(auto)]
+
 pub mod answer;

@@ -1,4 +1,6 @@
 // What the move call answers of accepted words, in arrays of the size that what is kept of them can need.
+#![tactic(auto)]
+
 ghost use Rattle.std.specs.Prelude.{◌≤◌, ◌≡◌, true, length};
 ghost use Rattle.refusals.specs.declared.Outcome.TheVariants as outcome;
 ghost use Rattle.table.specs.Checks.{checked};

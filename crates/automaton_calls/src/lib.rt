@@ -1,5 +1,7 @@
 // The calls of a watching automaton, in lent numbers: each function answers document 01's refusal number, 0 when the call is accepted, and
 // writes the place to a lent number.
+#![tactic(auto)]
+
 ghost use Rattle.std.specs.Prelude.{◌≡◌, length};
 ghost use Rattle.table.specs.Frame.{answer_of, result_of};
 ghost use Rattle.automaton_steps.specs.Steps.{states_step, move_step};

@@ -1,5 +1,7 @@
 // The move of a state of the watching automaton of a plain table whose rule is in Delta-2, by a sample; for state 0, the start. A table without a header at the
 // front of the result.
+#![tactic(auto)]
+
 ghost use Rattle.std.specs.Prelude.{◌≡◌, length};
 ghost use Rattle.table.specs.Frame.{answer_of, result_of};
 ghost use Rattle.automaton_steps.specs.Steps.{move_step};

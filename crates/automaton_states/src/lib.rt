@@ -1,4 +1,6 @@
 // The states of the watching automaton of a plain table whose rule is in Delta-2, one word each, at the front of the result.
+#![tactic(auto)]
+
 ghost use Rattle.std.specs.Prelude.{◌≡◌, true, length};
 ghost use Rattle.refusals.specs.declared.Outcome.TheVariants as outcome;
 ghost use Rattle.table.specs.Checks.{checked};

@@ -1,4 +1,6 @@
 // Class bytes made 0.
+#![tactic(auto)]
+
 ghost use Rattle.std.specs.Prelude.{◌≡◌, length, replicate};
 
 pub fn bytes(bytes: &mut [u8])

@@ -1,4 +1,6 @@
 // The words of a table and their uses, with an index and marks of the size that the table can need: short tables pay for no more.
+#![tactic(auto)]
+
 ghost use Rattle.std.specs.Prelude.{◌≡◌, [], ◌≤◌, length};
 ghost use Rattle.faults.specs.Contents.{contents};
 ghost use Rattle.faults.specs.Marks.{Room, Kept};

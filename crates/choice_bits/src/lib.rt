@@ -1,4 +1,6 @@
 // The bits of a choice, by the positions that are kept.
+#![tactic(auto)]
+
 ghost use Rattle.std.specs.Prelude.{◌<◌, ◌≡◌, length, get_or};
 ghost use Rattle.logic.specs.Bit.{bit};
 

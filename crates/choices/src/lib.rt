@@ -1,4 +1,6 @@
 // The folded parts of all choices, fewer chosen words first and equal counts by higher number, joined by or.
+#![tactic(auto)]
+
 ghost use Rattle.std.specs.Prelude.{ℕ, ◌^◌, ◌<◌, false};
 ghost use Rattle.logic.specs.Formula.{const};
 ghost use Rattle.transforms.specs.NormalForm.{choices};

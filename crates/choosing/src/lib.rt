@@ -1,4 +1,6 @@
 // What a choice changes in the draft of a rule: the slots that ask whether their word is chosen.
+#![tactic(auto)]
+
 ghost use Rattle.std.specs.Prelude.{length};
 ghost use Rattle.choosing.specs.Filled.{Chosen, Fillable};
 

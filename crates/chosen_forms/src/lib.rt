@@ -1,4 +1,6 @@
 // The steady and the recurring form of a word, by whether it is chosen, as slots of a choice's draft.
+#![tactic(auto)]
+
 ghost use Rattle.table.specs.Node as node;
 ghost use Rattle.form_places.specs.Places as places;
 ghost use Rattle.rewriting.specs.Slots as specs;

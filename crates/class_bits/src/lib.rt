@@ -1,4 +1,6 @@
 // What the bits of a word's class byte tell: the level of its classes, its class of the second level, and where the state of a Pi class stands.
+#![tactic(auto)]
+
 ghost use Rattle.std.specs.Prelude.{◌+◌, ◌<◌, ◌≡◌, cond};
 ghost use Rattle.logic.specs.Bit.{bit};
 ghost use Rattle.automata_laws.specs.StateClass.{class_bit};

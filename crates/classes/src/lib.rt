@@ -1,4 +1,6 @@
 // The class step: one byte a word of a plain table, bit b for the class of bit b.
+#![tactic(auto)]
+
 ghost use Rattle.std.specs.Prelude.{◌≡◌, length};
 ghost use Rattle.table.specs.Frame.{class_step, outcome_of, result_of};
 

@@ -1,4 +1,6 @@
 // Words of a table made 0.
+#![tactic(auto)]
+
 ghost use Rattle.std.specs.Prelude.{◌≡◌, length, replicate};
 
 pub fn words(words: &mut [u32])

@@ -1,4 +1,6 @@
 // The number of a sum that all parts were joined to.
+#![tactic(auto)]
+
 ghost use Rattle.logic.specs.Formula.{Formula};
 ghost use Rattle.table.specs.Numbering.{build};
 ghost use Rattle.placing.specs.State.{State, state, written, Numbered, Placing};

@@ -1,4 +1,6 @@
 // Two recordings of one show held against each other.
+#![tactic(auto)]
+
 ghost use Rattle.std.specs.Prelude.{◌≡◌, ◌++◌};
 ghost use Rattle.refusals.specs.Refusals.{first};
 ghost use Rattle.judge_conditions.specs.Checks.{recording_checks};

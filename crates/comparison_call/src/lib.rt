@@ -1,4 +1,6 @@
 // The comparison of two recordings in lent numbers: its refusal number and place, whether they are the same, and the first moment that differs.
+#![tactic(auto)]
+
 ghost use Rattle.agreement.specs.Comparing.{comparison};
 ghost use Rattle.agreement.specs.Replies.{ComparisonReply};
 

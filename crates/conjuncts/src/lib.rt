@@ -1,4 +1,6 @@
 // The conjuncts of a part: GF of the recurring form of each chosen least fixpoint, and FG of the steady form of each chosen greatest one.
+#![tactic(auto)]
+
 ghost use Rattle.std.specs.Prelude.{◌<◌, ◌≡◌};
 ghost use Rattle.conjuncts.specs.Conjunct.{outer_slot, Conjoinable, Conjoined, Joinable, Joined};
 

@@ -1,4 +1,6 @@
 // The rows of connectives.
+#![tactic(auto)]
+
 ghost use Rattle.std.specs.Prelude.{◌≡◌, length};
 ghost use Rattle.logic.specs.Truth.{Sequence, across};
 ghost use Rattle.row_words.specs.Row as rows;

@@ -1,5 +1,5 @@
 // The program's arguments: `text` and `as-text`, in either order.
-#[derive(Drop)]
+#[derive(Clone, Copy)]
 pub struct Arguments {
     pub text: bool,
     pub as_text: bool,

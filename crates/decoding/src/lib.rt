@@ -1,4 +1,6 @@
 // Rules as a program reads them: words from bytes, least byte first.
+#![tactic(auto)]
+
 ghost use Rattle.std.specs.Prelude.{◌≡◌, ◌++◌, ◌+◌, ◌*◌, ◌<◌, ◌/◌, min, length, drop};
 ghost use Rattle.refusals.specs.Refusals as refusals;
 ghost use Rattle.table.specs.StepChecks.{input_checks};

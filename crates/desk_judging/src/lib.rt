@@ -1,4 +1,6 @@
 // The judge over one tally for each desk.
+#![tactic(auto)]
+
 ghost use Rattle.std.specs.Prelude.{◌≡◌};
 ghost use Rattle.judging.specs.Judging.{judge_outcome, scratch_after, desk_of, tallies_after};
 ghost use Rattle.judging.specs.Judging.{reply as judgeReply};

@@ -1,4 +1,6 @@
 // The dialect without W and M: a plain table goes in, and the table of its conversion comes out at the front of the result.
+#![tactic(auto)]
+
 ghost use Rattle.std.specs.Prelude.{◌≡◌, length};
 ghost use Rattle.table.specs.Frame.{dialect_step, answer_of, result_of};
 

@@ -1,4 +1,6 @@
 // What the dialect step answers of accepted words: their conversion under its header, or 12.
+#![tactic(auto)]
+
 ghost use Rattle.std.specs.Prelude.{◌≡◌, true};
 ghost use Rattle.refusals.specs.declared.Outcome.TheVariants as outcome;
 ghost use Rattle.table.specs.Checks.{checked};

@@ -1,4 +1,6 @@
 // The draft of a conversion, in one rising pass.
+#![tactic(auto)]
+
 ghost use Rattle.std.specs.Prelude.{length};
 ghost use Rattle.dialect_slots.specs.Filling.{Room, Filled};
 

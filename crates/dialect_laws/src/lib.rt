@@ -1,1 +1,3 @@
 // What a conversion keeps, and its laws; no code.
+#![tactic(auto)]
+

@@ -1,4 +1,6 @@
 // The slots of a word's conversion. Word j has slot 2j + 1; slot 2j is for the "or" that its W needs, or the "and" that its M needs.
+#![tactic(auto)]
+
 ghost use Rattle.dialect_slots.specs.Filling.{Filled, Next};
 
 use slots::slot;

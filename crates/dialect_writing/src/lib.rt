@@ -1,4 +1,6 @@
 // The conversion of accepted words written to the front of a slice of any length, in rooms of the size that it can need.
+#![tactic(auto)]
+
 ghost use Rattle.std.specs.Prelude.{◌≡◌, true};
 ghost use Rattle.refusals.specs.declared.Outcome.TheVariants as outcome;
 ghost use Rattle.table.specs.Checks.{checked};

@@ -1,4 +1,6 @@
 // The first moment at which two recordings of one show differ.
+#![tactic(auto)]
+
 ghost use Rattle.std.specs.Prelude.{◌≡◌, ◌≤◌, ◌<◌, length};
 ghost use Rattle.logic.specs.Lasso.{lasso_of};
 ghost use Rattle.agreement.specs.Comparing as comparing;

@@ -1,4 +1,6 @@
 // Numbering a draft: the words of the root's formula as first needed, each slot's word placed once.
+#![tactic(auto)]
+
 ghost use Rattle.placing.specs.State.{Numbered, state, written};
 ghost use Rattle.draft_numbering.specs.Numberable.{Numberable, Rooted};
 

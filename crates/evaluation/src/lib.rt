@@ -1,4 +1,6 @@
 // Judging a rule over a looped recording: the rows of all its words, the answer read off the last one, and the tally.
+#![tactic(auto)]
+
 ghost use Rattle.std.specs.Prelude.{◌≡◌, false, ℕ, ◌≤◌};
 ghost use Rattle.refusals.specs.declared.Outcome.TheVariants.{Accepted};
 ghost use Rattle.table.specs.Table.{formulas, rule};

@@ -1,2 +1,4 @@
 // The checks of a table's words in rising order.
+#![tactic(auto)]
+
 pub mod words;

@@ -1,4 +1,6 @@
 // The checks of one field of a word, by what it is for; an operand that passes is marked on the way.
+#![tactic(auto)]
+
 ghost use Rattle.std.specs.Prelude.{◌≡◌, true, ◌≤◌, length, set};
 ghost use Rattle.refusals.specs.Refusals.{first};
 ghost use Rattle.field_checks.specs.Field.{and_then, blank_checks, operand_checks, letter_checks, Checked};

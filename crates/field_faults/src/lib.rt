@@ -1,4 +1,6 @@
 // The checks of a word's two fields by their layout; the operands that pass are marked on the way.
+#![tactic(auto)]
+
 ghost use Rattle.std.specs.Prelude.{◌≤◌, length};
 ghost use Rattle.field_checks.specs.Field.{Checked};
 ghost use Rattle.field_faults.specs.Layout.{field_checks};

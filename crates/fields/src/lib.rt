@@ -1,4 +1,6 @@
 // The checks of one word by itself: its kind, then its fields; the operands that pass are marked on the way.
+#![tactic(auto)]
+
 ghost use Rattle.std.specs.Prelude.{[], ◌≤◌, length};
 ghost use Rattle.table.specs.Checks.{word_checks};
 ghost use Rattle.field_checks.specs.Field.{Checked};

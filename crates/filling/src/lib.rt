@@ -1,4 +1,6 @@
 // A choice's draft: the three forms of each word, and the rule's part after them.
+#![tactic(auto)]
+
 ghost use Rattle.std.specs.Prelude.{length};
 ghost use Rattle.transforms.specs.NormalForm as normal;
 ghost use Rattle.table.specs.Table.{rule};

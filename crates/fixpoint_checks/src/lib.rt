@@ -1,4 +1,6 @@
 // Check 11: how many until_like words a table may have.
+#![tactic(auto)]
+
 ghost use Rattle.fixpoint_checks.specs.Past.{Past};
 
 use fixpoints::is_fixpoint;

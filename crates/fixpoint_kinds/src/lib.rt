@@ -1,4 +1,6 @@
 // The two kinds of fixpoints: which words are such, and the inner operator of their conjuncts.
+#![tactic(auto)]
+
 ghost use Rattle.std.specs.Prelude.{◌<◌, ◌≡◌};
 ghost use Rattle.logic.specs.Formula.{Formula};
 ghost use Rattle.rewriting.specs.Slots.{word_by};
@@ -7,7 +9,7 @@ ghost use Rattle.fixpoint_kinds.specs.Kinds.{picks, form_slot, inner_slot};
 use form_places::Rewriting;
 use table::kinds;
 
-#[derive(Drop)]
+#[derive(Clone, Copy)]
 pub enum Fixpoint {
     Least,
     Greatest,

@@ -1,4 +1,6 @@
 // The slots of U, W, R or M and of its step by a sample, with the inner word that the step needs.
+#![tactic(auto)]
+
 ghost use Rattle.std.specs.Prelude.{◌+◌, ◌*◌, ◌<◌, ◌≡◌, length};
 ghost use Rattle.after_slots.specs.Slots as after;
 

@@ -1,4 +1,6 @@
 // The until_like words, numbered from bit 0 upward in rising word number.
+#![tactic(auto)]
+
 ghost use Rattle.std.specs.Prelude.{◌≡◌, length};
 ghost use Rattle.table.specs.Steps.{fixpoints};
 ghost use Rattle.table.specs.StepChecks.{is_fixpoint_word};

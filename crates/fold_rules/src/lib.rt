@@ -1,11 +1,13 @@
 // What a constant operand makes of a word: one of its operands, or nothing. An operand's kind tells whether it is a constant; X has its operand on the right.
+#![tactic(auto)]
+
 ghost use Rattle.std.specs.Prelude.{◌≡◌};
 ghost use Rattle.table.specs.Node.{shape};
 ghost use Rattle.fold_rules.specs.Rules.{left_rule, right_rule, constantly, rule_of, answer};
 
 use table::kinds;
 
-#[derive(Drop)]
+#[derive(Clone, Copy)]
 pub enum Fold {
     Left,
     Right,

@@ -1,4 +1,6 @@
 // Folding a draft: each slot that stands for a formula stands for the folded formula afterwards, at its own place.
+#![tactic(auto)]
+
 ghost use Rattle.std.specs.Prelude.{◌≡◌, get_or};
 ghost use Rattle.folding.specs.Folded.{folded_slot, Foldable, Folded};
 

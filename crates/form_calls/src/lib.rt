@@ -1,5 +1,7 @@
 // The normal form and the whole way in lent numbers: each function answers document 01's refusal number, 0 when the call is accepted, and
 // writes the length, the place and whether its source is the form to lent numbers.
+#![tactic(auto)]
+
 ghost use Rattle.std.specs.Prelude.{◌≡◌, length};
 ghost use Rattle.table.specs.Limits.{house};
 ghost use Rattle.table.specs.Frame.{plain_step, normal_step, result_of, form_of};

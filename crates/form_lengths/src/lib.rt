@@ -1,4 +1,6 @@
 // How many words of a slice a form can need.
+#![tactic(auto)]
+
 ghost use Rattle.std.specs.Prelude.{◌<◌, min, ◌≡◌};
 ghost use Rattle.form_lengths.specs.Lengths.{most_words};
 

@@ -2,6 +2,8 @@
 //
 // The first slots are the two constants. Words are numbered from 1, and word j has five slots from 5 j on: its steady form, its
 // recurring form, a G and an or that the opening form of W or R is made of, and its opening form.
+#![tactic(auto)]
+
 ghost use Rattle.std.specs.Prelude.{◌<◌, ◌≡◌};
 ghost use Rattle.table.specs.Node as node;
 ghost use Rattle.slots.specs.Slot as slots;
@@ -14,7 +16,7 @@ pub const FALSE_SLOT: usize = 0;
 
 pub const TRUE_SLOT: usize = 1;
 
-#[derive(Drop)]
+#[derive(Clone, Copy)]
 pub enum Rewriting {
     Steady,
     Recurring,

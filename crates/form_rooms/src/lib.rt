@@ -1,4 +1,6 @@
 // Drafts, numbers, a stack and an index of the size that a form can need: short rules pay for no more.
+#![tactic(auto)]
+
 ghost use Rattle.table.specs.Steps.{normal_table};
 ghost use Rattle.placing.specs.Written.{Written};
 ghost use Rattle.form_rooms.specs.Rooms.{short_slots, middle_slots, most_slots, Positioned, Sized};

@@ -1,4 +1,6 @@
 // The words of a form: true alone where some part folds to it, and else the sum of the parts.
+#![tactic(auto)]
+
 ghost use Rattle.transforms.specs.NormalForm.{normal_form};
 ghost use Rattle.transforms.specs.Folding.{fold};
 ghost use Rattle.table.specs.Numbering.{build};

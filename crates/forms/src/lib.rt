@@ -1,4 +1,6 @@
 // The form in as much of the result as it can need, with an index and a draft of the size that it can need.
+#![tactic(auto)]
+
 ghost use Rattle.table.specs.Steps.{normal_table};
 ghost use Rattle.placing.specs.Written.{Written};
 ghost use Rattle.form_rooms.specs.Rooms.{Accepted, Positioned};

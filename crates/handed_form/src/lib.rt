@@ -1,4 +1,6 @@
 // The normal-form step that hands the form back, as a part of the slice that has it.
+#![tactic(auto)]
+
 ghost use Rattle.std.specs.Prelude.{◌≡◌, length};
 ghost use Rattle.table.specs.Frame.{form_of, handed, form_report};
 ghost use Rattle.handed_form.specs.Handed.{handed_at};

@@ -1,4 +1,6 @@
 // What a step that made a table answers: the table with its header, or 12.
+#![tactic(auto)]
+
 ghost use Rattle.headed_answers.specs.Finished.{Finishable, Finished};
 
 use refusals::Refusal;

@@ -1,4 +1,6 @@
 // Words that stand elsewhere, as a table in a lent slice: their header, and a copy of them.
+#![tactic(auto)]
+
 ghost use Rattle.std.specs.Prelude.{◌≡◌, ◌++◌, ◌≤◌, length, take, drop};
 ghost use Rattle.table.specs.Header.{headed};
 ghost use Rattle.header_classes.specs.Headable.{Headable};

@@ -1,4 +1,6 @@
 // The class of a table's words that their header tells: that of the last word, with bytes of the size that it needs; 0 where kinds 12 to 15 occur.
+#![tactic(auto)]
+
 ghost use Rattle.std.specs.Prelude.{◌≡◌, ◌≤◌, length};
 ghost use Rattle.table.specs.Header.{is_written, class_of};
 ghost use Rattle.header_classes.specs.Headable.{Headable};

@@ -1,4 +1,6 @@
 // The header of a table's words: kind 0, the class of the rule, the number of words; and whether that class is Delta-2.
+#![tactic(auto)]
+
 ghost use Rattle.std.specs.Prelude.{◌≡◌};
 ghost use Rattle.logic.specs.Bit.{bit};
 ghost use Rattle.table.specs.Node.{left};

@@ -1,4 +1,6 @@
 // The checks of a table that is handed over with its header.
+#![tactic(auto)]
+
 ghost use Rattle.std.specs.Prelude.{◌≡◌};
 ghost use Rattle.table.specs.Header.{headed_checked};
 

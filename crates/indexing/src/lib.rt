@@ -1,4 +1,6 @@
 // A word added to a hash index.
+#![tactic(auto)]
+
 ghost use Rattle.std.specs.Prelude.{List, [], ◌∷◌, ◌++◌, ℕ, ◌+◌, ◌≤◌, ◌<◌, length};
 ghost use Rattle.lookup.specs.Index.{count_of, half_of, Indexed};
 

@@ -1,4 +1,6 @@
 // The judge in lent numbers: an answer is its refusal number, its place and what it says. The desk's tally goes in and comes back by value.
+#![tactic(auto)]
+
 ghost use Rattle.std.specs.Prelude.{◌≡◌};
 ghost use Rattle.judging.specs.Judging.{judge_outcome, scratch_after};
 ghost use Rattle.judging.specs.Judging.{reply as judgeReply};
@@ -8,7 +10,7 @@ use judge_replies::judge_reply;
 use tally::{Desk, Tally};
 
 // The refusal number, and the named desk's tally after the call.
-#[derive(Drop)]
+#[derive(Clone, Copy)]
 pub struct Called {
     pub number: u32,
     pub tally: Tally,

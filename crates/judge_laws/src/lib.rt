@@ -1,1 +1,3 @@
 // The laws of a judgement's answer; no code.
+#![tactic(auto)]
+

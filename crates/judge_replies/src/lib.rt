@@ -1,4 +1,6 @@
 // The judge's answer as lent numbers: document 01's refusal number, 0 when the call is accepted, its place, and what an accepted call says.
+#![tactic(auto)]
+
 ghost use Rattle.judge_replies.specs.Replies.{JudgeReply};
 
 use judging::answer::Judgement;

@@ -3,7 +3,7 @@ use refusals::Refusal;
 use tally::Tally;
 
 // Whether the rule holds at the first position, at how many positions, and the first position at which it fails.
-#[derive(Drop)]
+#[derive(Clone, Copy)]
 pub enum Judgement {
     Judged {
         holds: bool,
@@ -14,7 +14,7 @@ pub enum Judgement {
 }
 
 // The answer, with the named desk's tally after it.
-#[derive(Drop)]
+#[derive(Clone, Copy)]
 pub struct Judged {
     pub answer: Judgement,
     pub tally: Tally,

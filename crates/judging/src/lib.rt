@@ -1,2 +1,4 @@
 // What a judgement answers and leaves, whoever makes it; no code.
+#![tactic(auto)]
+
 pub mod answer;

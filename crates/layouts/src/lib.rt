@@ -1,9 +1,11 @@
 // What the two fields of a word of a kind are for.
+#![tactic(auto)]
+
 ghost use Rattle.std.specs.Prelude.{◌≡◌, ◌<◌};
 ghost use Rattle.table.specs.Node.{shape};
 ghost use Rattle.layouts.specs.Layout.{layout_of};
 
-#[derive(Drop)]
+#[derive(Clone, Copy)]
 pub enum Layout {
     Constant,
     Letter,

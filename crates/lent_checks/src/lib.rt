@@ -1,4 +1,6 @@
 // The checks of what a judgement is lent beside its table: the recording with the letters and the scratch, and the named desk, each over the numbers that it looks at.
+#![tactic(auto)]
+
 ghost use Rattle.std.specs.Prelude.{◌≡◌, ◌≤◌, ◌++◌, length};
 ghost use Rattle.refusals.specs.Refusals.{first};
 ghost use Rattle.table.specs.StepChecks.{letter_checks};

@@ -1,4 +1,6 @@
 // A letter of samples, packed into a word: one sample, four, eight, or one by one.
+#![tactic(auto)]
+
 ghost use Rattle.std.specs.Prelude.{◌≡◌, ◌+◌, ◌≤◌, ◌<◌, length, get_or};
 ghost use Rattle.logic.specs.Lasso.{letter_in};
 ghost use Rattle.row_words.specs.Row as rows;

@@ -1,4 +1,6 @@
 // Letters that a recording, or a sample, does not drive.
+#![tactic(auto)]
+
 ghost use Rattle.std.specs.Prelude.{◌≡◌};
 ghost use Rattle.refusals.specs.Refusals.{first};
 ghost use Rattle.table.specs.StepChecks.{letter_checks, sample_checks};

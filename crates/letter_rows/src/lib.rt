@@ -1,4 +1,6 @@
 // The rows of letters: a bit of each sample, or its denial, 64 samples to a word.
+#![tactic(auto)]
+
 ghost use Rattle.std.specs.Prelude.{◌≡◌, ◌+◌, ◌≤◌, length, get_or};
 ghost use Rattle.logic.specs.Lasso.{letter_in};
 ghost use Rattle.row_words.specs.Row as rows;

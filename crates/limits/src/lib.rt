@@ -1,4 +1,6 @@
 // The limits that a house states: whether each is within its range, and those of a desk.
+#![tactic(auto)]
+
 ghost use Rattle.std.specs.Prelude.{◌≡◌};
 ghost use Rattle.table.specs.Limits as limits;
 

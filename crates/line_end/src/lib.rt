@@ -1,4 +1,6 @@
 // A text without its line end.
+#![tactic(auto)]
+
 ghost use Rattle.std.specs.Prelude.{◌≡◌, ◌-◌, length};
 ghost use Rattle.line_end.specs.LineEnd.{line_end};
 

@@ -1,4 +1,6 @@
 // A word as a line of text.
+#![tactic(auto)]
+
 ghost use Rattle.std.specs.Prelude.{◌≡◌, ◌%◌};
 ghost use Rattle.listing.specs.Listing.{hex_digit, hex_line};
 

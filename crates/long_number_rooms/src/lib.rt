@@ -1,4 +1,6 @@
 // The rooms of long drafts: numbers, a stack and an index of about the size that they need, as in number_rooms, below.
+#![tactic(auto)]
+
 ghost use Rattle.number_rooms.specs.Rooms.{Asked, Made};
 
 pub fn of_3591(draft: &[u64], root: usize, res: &mut [u32]) -> usize

@@ -1,5 +1,7 @@
 // A hash index of the words of a table, by chains, in one lent slice: the count of words, then for each word the latest earlier word
 // of its bucket, and in the upper half the latest word of each bucket; 0 for none. Numbers fall along a chain, so a search ends.
+#![tactic(auto)]
+
 ghost use Rattle.std.specs.Prelude.{◌≡◌, ◌≤◌, ◌<◌, length, take};
 ghost use Rattle.lookup.specs.Index.{bucket_of, count_of, Indexed, Found};
 

@@ -1,4 +1,6 @@
 // What two recordings are held against each other by: how many moments stand for all, the sample after one, and whether two samples are alike.
+#![tactic(auto)]
+
 ghost use Rattle.std.specs.Prelude.{◌≡◌, cond, ℕ, ◌+◌, ◌-◌, ◌^◌, ◌≤◌, ◌<◌, ltb};
 ghost use Rattle.agreement.specs.Comparing as comparing;
 

@@ -1,4 +1,6 @@
 // What the move call answers of accepted words: the state and the sample are checked, and the move is written, or 12.
+#![tactic(auto)]
+
 ghost use Rattle.state_numbers.specs.Numbered.{Room};
 ghost use Rattle.move_placing.specs.Placed.{Known};
 ghost use Rattle.move_answers.specs.Answered.{Given, Answered};

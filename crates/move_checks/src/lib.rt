@@ -1,4 +1,6 @@
 // The checks of the move call after those of its table.
+#![tactic(auto)]
+
 ghost use Rattle.std.specs.Prelude.{◌≡◌, length};
 ghost use Rattle.refusals.specs.Refusals.{first};
 ghost use Rattle.automata_tables.specs.States.{state_words};

@@ -1,4 +1,6 @@
 // The draft of a move by a sample, in one rising pass: the slots of each word, by its kind.
+#![tactic(auto)]
+
 ghost use Rattle.std.specs.Prelude.{length};
 ghost use Rattle.move_draft.specs.Filling.{Room, Filled, Next};
 

@@ -1,4 +1,6 @@
 // The move of a state of accepted words, or the start, from the number of the state, written to the front of a slice.
+#![tactic(auto)]
+
 ghost use Rattle.move_placing.specs.Placed.{Placed, Known};
 
 use move_writing::write;

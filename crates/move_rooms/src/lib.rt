@@ -1,4 +1,6 @@
 // A draft of the size that the table can need, filled and numbered: short tables pay for no more.
+#![tactic(auto)]
+
 ghost use Rattle.move_roots.specs.Roots.{Drawn};
 ghost use Rattle.move_rooms.specs.Rooms.{Asked, Moved};
 

@@ -1,4 +1,6 @@
 // The slot of what is written of a state: state 0 is the start; any other is given with its word and the bit of its class, and its slot is that of its move.
+#![tactic(auto)]
+
 ghost use Rattle.std.specs.Prelude.{◌+◌, ◌*◌, ◌≤◌, ◌<◌, ◌≡◌, length};
 ghost use Rattle.drafts.specs.Drafted.{Drafted};
 ghost use Rattle.automata_tables.specs.Moves.{as_formula, written_at};

@@ -1,6 +1,8 @@
 // The slots of one word in the draft of a move, where it is a constant, an and, an or, or a letter; and those of a word's states and classes. Word j has seven:
 // 7j to 7j + 2, the word's combination by Sigma-1, Pi-1 and a class of the second level; 7j + 3, the inner word that the moves of U, W, R and M need;
 // 7j + 4 to 7j + 6, the word moved by those classes.
+#![tactic(auto)]
+
 ghost use Rattle.std.specs.Prelude.{◌+◌, ◌*◌, ◌<◌, ◌≡◌, length};
 ghost use Rattle.word_states.specs.States.{Small};
 ghost use Rattle.move_slots.specs.Slots as moves;

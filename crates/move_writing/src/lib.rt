@@ -1,4 +1,6 @@
 // The move of a state of accepted words, or the start, written to the front of a slice of any length, in rooms of the size that it can need.
+#![tactic(auto)]
+
 ghost use Rattle.move_roots.specs.Roots.{Drawn};
 ghost use Rattle.move_rooms.specs.Rooms.{Moved};
 

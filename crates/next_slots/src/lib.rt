@@ -1,4 +1,6 @@
 // The slots of one word in the draft of a move, where it is X; move_slots has their layout.
+#![tactic(auto)]
+
 ghost use Rattle.std.specs.Prelude.{◌+◌, ◌*◌, ◌<◌, ◌≡◌, length};
 ghost use Rattle.word_states.specs.States.{Small};
 ghost use Rattle.next_slots.specs.Slots as moves;

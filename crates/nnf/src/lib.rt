@@ -1,4 +1,6 @@
 // The plain-form step: a written table goes in, and its plain form's table comes out at the front of the result.
+#![tactic(auto)]
+
 ghost use Rattle.std.specs.Prelude.{◌≡◌, length};
 ghost use Rattle.table.specs.Frame.{plain_step, answer_of, result_of};
 

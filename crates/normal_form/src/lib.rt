@@ -1,5 +1,7 @@
 // The normal-form step: a plain table goes in, and its form comes back. A table whose rule is in Delta-2 is its own form; of any other the normal
 // form's table is made at the front of the result.
+#![tactic(auto)]
+
 ghost use Rattle.std.specs.Prelude.{◌≡◌, length};
 ghost use Rattle.table.specs.Frame.{normal_step, result_of, form_of};
 

@@ -1,1 +1,3 @@
 // What holds of the normal form's table, whoever makes it: laws of the definitions, in proofs/. No code.
+#![tactic(auto)]
+

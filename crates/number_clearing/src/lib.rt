@@ -1,4 +1,6 @@
 // Numbers of slots made 0.
+#![tactic(auto)]
+
 ghost use Rattle.std.specs.Prelude.{◌≡◌, length, replicate};
 
 pub fn numbers(numbers: &mut [u16])

@@ -1,4 +1,6 @@
 // A draft numbered from no words, with numbers, a stack and an index of about the size that it needs: short drafts do not pay for long ones.
+#![tactic(auto)]
+
 ghost use Rattle.number_rooms.specs.Rooms.{Asked, Made};
 
 // Each room is named by the slots of its longest draft. The table of the root's formula at the front of the result, and its length; 0 where it does not fit.

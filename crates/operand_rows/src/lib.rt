@@ -1,4 +1,6 @@
 // The row of a word, from the rows of its operands.
+#![tactic(auto)]
+
 ghost use Rattle.std.specs.Prelude.{◌≡◌, Bool, ◌-◌, ◌≤◌, ◌<◌, length};
 ghost use Rattle.logic.specs.Truth.{Sequence, Operation, across};
 ghost use Rattle.row_words.specs.Row as rows;

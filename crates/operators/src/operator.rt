@@ -7,7 +7,7 @@ use row_words::connective::Connective;
 
 // A constant; a letter or its denial; a connective of the operands; the next position's value; or the least or greatest fixpoint of:
 // the goal now, or the keep now and the same at the next position.
-#[derive(Drop)]
+#[derive(Clone, Copy)]
 pub enum Operator {
     Constant(bool),
     Letter(bool),

@@ -1,4 +1,6 @@
 // An outcome as lent numbers: document 01's refusal number, 0 when the call is accepted, and its place.
+#![tactic(auto)]
+
 ghost use Rattle.std.specs.Prelude.{◌≡◌};
 ghost use Rattle.refusals.specs.Refusals.{outcome_number, outcome_place};
 

@@ -1,4 +1,6 @@
 // A text read byte by byte: the place at which it departs from the grammar, or the words of its rule.
+#![tactic(auto)]
+
 ghost use Rattle.std.specs.Prelude.{◌≡◌};
 ghost use Rattle.placing.specs.State.{state};
 ghost use Rattle.turns.specs.Numbers.{is_stuck, is_ended};

@@ -1,4 +1,6 @@
 // The folded part of one choice, joined by or to the sum of those before it.
+#![tactic(auto)]
+
 ghost use Rattle.std.specs.Prelude.{[], ◌∷◌, length};
 ghost use Rattle.transforms.specs.NormalForm.{chosen_in};
 ghost use Rattle.placing.specs.State.{state};

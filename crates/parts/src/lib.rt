@@ -1,4 +1,6 @@
 // The part of a choice, drafted and folded; and a slot numbered from no numbers.
+#![tactic(auto)]
+
 ghost use Rattle.std.specs.Prelude.{length};
 ghost use Rattle.logic.specs.Formula.{Formula};
 ghost use Rattle.table.specs.Numbering.{build};

@@ -1,5 +1,7 @@
 // From a written table to its form or the refusal: the plain-form step, and the normal-form step on exactly the words that it answered. The form
 // is the plain form, where it stands, if that is its own form.
+#![tactic(auto)]
+
 ghost use Rattle.claims.specs.Claim.{Claim};
 
 use table::answer::{Answer, Form};

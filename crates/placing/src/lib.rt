@@ -1,2 +1,4 @@
 // Words put at the end of a table, or used again.
+#![tactic(auto)]
+
 pub mod put;

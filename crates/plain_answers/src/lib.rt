@@ -1,4 +1,6 @@
 // What the plain-form step answers of accepted words: their plain form under its header, or 12.
+#![tactic(auto)]
+
 ghost use Rattle.std.specs.Prelude.{◌≡◌, min};
 ghost use Rattle.table.specs.Header.{headed};
 ghost use Rattle.table.specs.Steps.{plain_table};

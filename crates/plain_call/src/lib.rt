@@ -1,5 +1,7 @@
 // The plain form in lent numbers: document 01's refusal number is answered, 0 when the call is accepted, and the length and the place are
 // written to lent numbers.
+#![tactic(auto)]
+
 ghost use Rattle.std.specs.Prelude.{◌≡◌, length};
 ghost use Rattle.table.specs.Limits.{house};
 ghost use Rattle.table.specs.Frame.{plain_step, answer_of, result_of};

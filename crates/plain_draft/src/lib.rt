@@ -1,5 +1,7 @@
 // The plain form of a written word and of its denial: two functions that call each other at not and implies, the word's number falling at each
 // call, and fill a draft. Its slots 0 and 1 are the constants; word j has slot 2j for its form, slot 2j + 1 for that of its denial. 0: not yet filled.
+#![tactic(auto)]
+
 ghost use Rattle.std.specs.Prelude.{true, false};
 ghost use Rattle.plain_draft.specs.Forming.{Asked, Formed};
 

@@ -1,9 +1,11 @@
 // What a plain kind stands for, as far as class bytes go.
+#![tactic(auto)]
+
 ghost use Rattle.std.specs.Prelude.{◌<◌};
 ghost use Rattle.table.specs.Node.{shape};
 ghost use Rattle.plain_kinds.specs.PlainKind.{Stands};
 
-#[derive(Drop)]
+#[derive(Clone, Copy)]
 pub enum Operator {
     // and, or
     Boolean,
@@ -13,7 +15,7 @@ pub enum Operator {
     Greatest,
 }
 
-#[derive(Drop)]
+#[derive(Clone, Copy)]
 pub enum PlainKind {
     Atomic,
     Next,

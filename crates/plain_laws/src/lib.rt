@@ -1,1 +1,3 @@
 // Laws of a plain form's table, whoever makes it; no code.
+#![tactic(auto)]
+

@@ -1,4 +1,6 @@
 // A plain form drafted and numbered, in a draft of the size that the table can need: short tables pay for no more.
+#![tactic(auto)]
+
 ghost use Rattle.std.specs.Prelude.{true};
 ghost use Rattle.logic.specs.NegationNormalForm.{plain};
 ghost use Rattle.table.specs.Table.{rule};

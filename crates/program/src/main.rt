@@ -1,6 +1,8 @@
 // Prints the form of a rule that is read from standard input: a written table, its words least byte first, or after the argument
 // `text` a text. The form is the count in decimal, then its header and each word on its line in eight hexadecimal digits, capitals, or
 // after the argument `as-text` a text. A refusal prints one line: refused, the number, at, the place.
+#![tactic(auto)]
+
 use console::argument;
 use console::input::rest;
 use line_end::without_line_end;

@@ -1,4 +1,6 @@
 // The checks of a table of words, numbers 1 to 10, in document 01's order.
+#![tactic(auto)]
+
 ghost use Rattle.std.specs.Prelude.{◌≡◌, min};
 ghost use Rattle.table.specs.Checks.{checked};
 

@@ -1,4 +1,6 @@
 // The checks of a recording, over the numbers that they look at.
+#![tactic(auto)]
+
 ghost use Rattle.std.specs.Prelude.{◌≡◌};
 ghost use Rattle.refusals.specs.Refusals.{first};
 ghost use Rattle.judge_conditions.specs.Checks.{recording_checks};

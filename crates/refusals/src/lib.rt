@@ -1,5 +1,7 @@
 // Why a call is refused, a case for each number of document 01's check table and of the requests after it, with the place of a faulty word or byte.
-#[derive(Drop)]
+#![tactic(auto)]
+
+#[derive(Clone, Copy)]
 pub enum Refusal {
     NoWord,
     TooManyWords,
@@ -33,12 +35,12 @@ pub enum Refusal {
 }
 
 // A step that has nothing to say when it is accepted.
-#[derive(Drop)]
+#[derive(Clone, Copy)]
 pub enum Outcome {
     Accepted,
     Refused(Refusal),
 }
 
 // The number of a refusal, and the place of the faulty word or byte, 0 where it has none.
-#[derive(Drop)]
+#[derive(Clone, Copy)]
 pub struct Report(pub u32, pub usize);

@@ -1,4 +1,6 @@
 // The answers of the steps that make words as lent numbers: document 01's refusal number, 0 when the call is accepted, its place, and what was made.
+#![tactic(auto)]
+
 ghost use Rattle.replies.specs.Replies.{TableReply, FormReply};
 
 use table::answer::{Answer, Form};

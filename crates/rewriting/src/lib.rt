@@ -1,4 +1,6 @@
 // The opening form of a word, as slots of a choice's draft.
+#![tactic(auto)]
+
 ghost use Rattle.std.specs.Prelude.{◌<◌};
 ghost use Rattle.rewriting.specs.Slots as specs;
 

@@ -1,4 +1,6 @@
 // The form of words that are not their own form, made at the front of the result.
+#![tactic(auto)]
+
 ghost use Rattle.table.specs.Header.{headed};
 ghost use Rattle.table.specs.Steps.{normal_table};
 ghost use Rattle.headed_answers.specs.Finished.{Given};

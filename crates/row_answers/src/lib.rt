@@ -1,4 +1,6 @@
 // What a judgement answers, read off the rule's row.
+#![tactic(auto)]
+
 ghost use Rattle.std.specs.Prelude.{◌≡◌};
 ghost use Rattle.logic.specs.Truth.{Sequence};
 ghost use Rattle.row_words.specs.Writing.{RowFor};

@@ -1,4 +1,6 @@
 // The judge's row call in lent numbers: its refusal number and place, and which part of the scratch is the rule's own row.
+#![tactic(auto)]
+
 ghost use Rattle.std.specs.Prelude.{◌≡◌, length};
 ghost use Rattle.table.specs.Header.{body};
 ghost use Rattle.judging.specs.Judging.{row_outcome, scratch_after};

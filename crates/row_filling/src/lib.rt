@@ -1,4 +1,6 @@
 // The rows of a table's words, in rising word number from the start of the scratch.
+#![tactic(auto)]
+
 ghost use Rattle.std.specs.Prelude.{◌≡◌, ℕ, ◌+◌, ◌≤◌, ◌<◌, length, take};
 ghost use Rattle.table.specs.Table.{formulas};
 ghost use Rattle.row_words.specs.Writing.{RowFor};

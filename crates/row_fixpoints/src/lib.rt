@@ -1,4 +1,6 @@
 // The rows of the least and greatest fixpoints.
+#![tactic(auto)]
+
 ghost use Rattle.std.specs.Prelude.{◌≡◌, ◌<◌, length};
 ghost use Rattle.logic.specs.Truth.{Sequence, closed_sweep};
 ghost use Rattle.row_words.specs.Row as rows;

@@ -1,4 +1,6 @@
 // What is read off a row.
+#![tactic(auto)]
+
 ghost use Rattle.std.specs.Prelude.{◌≡◌, ℕ, ◌/◌, ◌≤◌, ◌<◌, length};
 ghost use Rattle.logic.specs.Truth.{Sequence};
 ghost use Rattle.row_words.specs.Row as rows;

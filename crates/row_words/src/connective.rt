@@ -1,5 +1,5 @@
 // What is made of two truth values at each position by itself. `Not` denies the right one.
-#[derive(Drop)]
+#[derive(Clone, Copy)]
 pub enum Connective {
     Never,
     Always,

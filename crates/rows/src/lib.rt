@@ -1,5 +1,7 @@
 // Rows of truth values: the truth of a formula at each of up to 4,096 positions, 64 positions to a word. A writer for constants
 // and one for the next position; an operand is lent as its row.
+#![tactic(auto)]
+
 ghost use Rattle.std.specs.Prelude.{◌≡◌, ◌<◌, length};
 ghost use Rattle.logic.specs.Truth.{Sequence, shifted, looped};
 ghost use Rattle.row_words.specs.Row as rows;

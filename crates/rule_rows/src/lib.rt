@@ -1,4 +1,6 @@
 // The row call: the rows of all words of a rule, with no answer and no tally, and the rule's own row.
+#![tactic(auto)]
+
 ghost use Rattle.std.specs.Prelude.{◌≡◌};
 ghost use Rattle.judging.specs.Judging.{row_outcome, scratch_after, last_row, part_at};
 ghost use Rattle.refusals.specs.Refusals.{outcome_number, outcome_place};

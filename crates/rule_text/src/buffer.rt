@@ -2,7 +2,7 @@
 use crate::{stack, writing};
 
 // How far a text has come: how high the stack is, and how many bytes of the buffer are used.
-#[derive(Drop)]
+#[derive(Clone, Copy)]
 pub struct Progress {
     pub depth: usize,
     pub used: usize,

@@ -1,4 +1,6 @@
 // What a letter becomes by a sample.
+#![tactic(auto)]
+
 ghost use Rattle.std.specs.Prelude.{◌≤◌, ◌≡◌};
 ghost use Rattle.sample_letters.specs.Constant.{constant_at};
 

@@ -1,5 +1,7 @@
 // The end of an operand: the words of the prefixes that wait for it are put. The stack holds a word for each prefix and each operator whose
 // right operand is not yet read, and 0 for a bracket without an operator.
+#![tactic(auto)]
+
 ghost use Rattle.std.specs.Prelude.{◌≡◌, ◌+◌, ◌≤◌, suc};
 ghost use Rattle.table.specs.Numbering as numbering;
 ghost use Rattle.placing.specs.State.{state, written, count};
@@ -8,7 +10,7 @@ ghost use Rattle.settling.specs.Settled as settled;
 use placing::put;
 
 // An operand that has ended: its number, and how much of the stack is left.
-#[derive(Drop)]
+#[derive(Clone, Copy)]
 pub struct Operand {
     pub number: usize,
     pub depth: usize,

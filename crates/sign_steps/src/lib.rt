@@ -1,4 +1,6 @@
 // What a sign makes of the stack of what is open and of the words so far: where an operand is to begin, and after one.
+#![tactic(auto)]
+
 ghost use Rattle.std.specs.Prelude.{◌≤◌};
 ghost use Rattle.placing.specs.State.{state, written};
 ghost use Rattle.signs.specs.Signed as signed;

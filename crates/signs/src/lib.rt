@@ -1,10 +1,12 @@
 // What a byte is where no symbol is being spelled. A symbol is known by its first byte; only a letter goes on with a number.
+#![tactic(auto)]
+
 ghost use Rattle.std.specs.Prelude.{◌≡◌};
 ghost use Rattle.grammar.specs.Reader.{mark_of};
 ghost use Rattle.signs.specs.Signed.{signed};
 
 // A constant and an operator come with their kind and the bytes that are left of them, the next one lowest; a prefix with its kind.
-#[derive(Drop)]
+#[derive(Clone, Copy)]
 pub enum Sign {
     Blank,
     Constant(u32, u32),

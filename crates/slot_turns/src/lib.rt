@@ -1,4 +1,6 @@
 // What numbering needs of a slot next.
+#![tactic(auto)]
+
 ghost use Rattle.std.specs.Prelude.{◌≡◌, ◌<◌, get_or};
 ghost use Rattle.table.specs.Node as node;
 ghost use Rattle.slots.specs.Slot as slots;
@@ -7,7 +9,7 @@ ghost use Rattle.slot_turns.specs.Turn.{arity, turn_of, Slotted, Turnable};
 use slots::slot;
 
 // An operand that has no number yet, or the slot's word, once its operands have theirs.
-#[derive(Drop)]
+#[derive(Clone, Copy)]
 pub enum Turn {
     Operand(usize),
     Word(u32),

@@ -1,2 +1,4 @@
 // A slot of a draft.
+#![tactic(auto)]
+
 pub mod slot;

@@ -1,9 +1,11 @@
 // A word of a table, taken apart, and the kind that a plain form puts for its kind.
+#![tactic(auto)]
+
 ghost use Rattle.source.specs.Source.{Inside, WordAt};
 
 pub mod kinds;
 
-#[derive(Drop)]
+#[derive(Clone, Copy)]
 pub struct Word {
     pub kind: u32,
     pub left: usize,

@@ -1,5 +1,7 @@
 // The draft of the start, in one rising pass. Word j has three slots: 3j and 3j + 1, its states of a Sigma class and of a Pi class, and 3j + 2, the
 // word's combination.
+#![tactic(auto)]
+
 ghost use Rattle.std.specs.Prelude.{◌+◌, ◌*◌, ◌<◌, ◌≡◌, length};
 ghost use Rattle.word_states.specs.States.{Small};
 ghost use Rattle.start_draft.specs.Filling.{state_slots, Room, Filled, Next};

@@ -1,4 +1,6 @@
 // The classes of a word's states, by its kind and its class byte.
+#![tactic(auto)]
+
 ghost use Rattle.std.specs.Prelude.{◌≡◌, cond, ◌<◌, length, get_or};
 ghost use Rattle.logic.specs.Bit.{bit};
 ghost use Rattle.state_classes.specs.Classes.{is_proper_kind, level_bit, smallest_bits, class_bits};

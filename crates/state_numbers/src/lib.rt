@@ -1,4 +1,6 @@
 // The numbers of states: how many the words before each have, and the word and the class of one.
+#![tactic(auto)]
+
 ghost use Rattle.std.specs.Prelude.{◌≡◌, ◌≤◌, ◌<◌, length};
 ghost use Rattle.automata_tables.specs.States.{state_words};
 ghost use Rattle.state_numbers.specs.Numbered.{Classed, Room, Started, Numbered, Filled, InWord, Found};

@@ -1,4 +1,6 @@
 // The states of accepted words, written where they fit, with class bytes of the size that the table can need: short tables pay for no more.
+#![tactic(auto)]
+
 ghost use Rattle.std.specs.Prelude.{◌≡◌, true, ◌≤◌, length};
 ghost use Rattle.refusals.specs.declared.Outcome.TheVariants as outcome;
 ghost use Rattle.table.specs.Checks.{checked};

@@ -1,5 +1,7 @@
 // The slots of a word's states in a draft: slot i for a first class and slot i + 1 for a second one, each false where the word is not in the class, and
 // slot i + 2 for the or of those that there are, or else for a third class.
+#![tactic(auto)]
+
 ghost use Rattle.std.specs.Prelude.{◌+◌, ◌<◌, ◌≡◌, length};
 ghost use Rattle.state_slots.specs.Slots as slots;
 

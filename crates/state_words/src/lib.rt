@@ -1,4 +1,6 @@
 // The states as words.
+#![tactic(auto)]
+
 ghost use Rattle.std.specs.Prelude.{◌≡◌, ◌+◌, ◌<◌};
 ghost use Rattle.state_classes.specs.Classes.{bit_word};
 ghost use Rattle.state_numbers.specs.Numbered.{Classed};

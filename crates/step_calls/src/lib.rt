@@ -1,4 +1,6 @@
 // A table converted, or stepped by a sample, in lent numbers.
+#![tactic(auto)]
+
 ghost use Rattle.std.specs.Prelude.{◌≡◌, length};
 ghost use Rattle.table.specs.Frame.{dialect_step, after_step, answer_of, result_of};
 ghost use Rattle.replies.specs.Replies.{TableReply};

@@ -1,4 +1,6 @@
 // The parts so far, joined by or: the number of a sum, and one part more.
+#![tactic(auto)]
+
 ghost use Rattle.std.specs.Prelude.{◌≡◌};
 ghost use Rattle.logic.specs.Formula.{Formula, disj};
 ghost use Rattle.transforms.specs.Folding.{fold_binary};
@@ -11,7 +13,7 @@ use placing::put;
 use table::kinds;
 
 // No part but false ones so far, of which no word is placed; no room for what there is; or the number of the sum.
-#[derive(Drop)]
+#[derive(Clone, Copy)]
 pub enum Sum {
     Nothing,
     Full,

@@ -1,4 +1,6 @@
 // What a backward sweep over rows comes to at a position.
+#![tactic(auto)]
+
 ghost use Rattle.std.specs.Prelude.{◌≡◌, ◌-◌, ◌≤◌, length};
 ghost use Rattle.logic.specs.Truth.{Sequence, sweep};
 ghost use Rattle.row_words.specs.Row as rows;

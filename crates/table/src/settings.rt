@@ -1,5 +1,5 @@
 // How long a written table may be, and how many until_like words a plain one may have.
-#[derive(Drop)]
+#[derive(Clone, Copy)]
 pub struct Limits {
     pub written: usize,
     pub fixpoints: usize,

@@ -1,5 +1,7 @@
 // A table checked or classified, in lent numbers: each function answers document 01's refusal number, 0 when the call is accepted, and writes
 // the place to a lent number.
+#![tactic(auto)]
+
 ghost use Rattle.std.specs.Prelude.{◌≡◌, length};
 ghost use Rattle.refusals.specs.Refusals.{outcome_number, outcome_place};
 ghost use Rattle.table.specs.Header.{headed_checked};

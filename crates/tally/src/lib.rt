@@ -1,16 +1,18 @@
 // The tally of judgements: how many were made, and how many of them held at the first position.
+#![tactic(auto)]
+
 ghost use Rattle.std.specs.Prelude.{◌≡◌};
 ghost use Rattle.tally.specs.Tallies.{none_judged, is_full, tally_after};
 
 #[repr(C)]
-#[derive(Drop)]
+#[derive(Clone, Copy)]
 pub struct Tally {
     pub judged: u32,
     pub held: u32,
 }
 
 // The desk that a judgement names: how many tallies there are, its number among them, counted from 0, and its tally; any tally where the number is that of none.
-#[derive(Drop)]
+#[derive(Clone, Copy)]
 pub struct Desk {
     pub desks: usize,
     pub number: usize,

@@ -1,4 +1,6 @@
 // The slots of one word in the draft of a move, where it is U, W, R or M; move_slots has their layout.
+#![tactic(auto)]
+
 ghost use Rattle.std.specs.Prelude.{◌+◌, ◌*◌, ◌<◌, ◌≡◌, length};
 ghost use Rattle.word_states.specs.States.{Small};
 ghost use Rattle.temporal_slots.specs.Slots as moves;

@@ -1,4 +1,6 @@
 // Rules typed as text: a text goes in, and its rule's table comes out at the front of the result.
+#![tactic(auto)]
+
 ghost use Rattle.std.specs.Prelude.{◌≡◌, length};
 ghost use Rattle.table.specs.Frame.{answer_of, result_of};
 ghost use Rattle.text.specs.Text.{text_step};

@@ -1,4 +1,6 @@
 // A rule read from a text, in lent numbers.
+#![tactic(auto)]
+
 ghost use Rattle.std.specs.Prelude.{◌≡◌, length};
 ghost use Rattle.table.specs.Limits.{house};
 ghost use Rattle.table.specs.Frame.{answer_of, result_of};

@@ -1,4 +1,6 @@
 // Whether the part of some choice folds to true: then so does the form.
+#![tactic(auto)]
+
 ghost use Rattle.std.specs.Prelude.{◌<◌, ◌≡◌, length};
 ghost use Rattle.table.specs.Steps.{fixpoints};
 ghost use Rattle.choosing.specs.Filled.{Laid};

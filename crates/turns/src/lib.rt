@@ -1,5 +1,7 @@
 // What the reader of a text holds, and what a sign or a digit makes of it: the stack of what is open, and what may come next.
 // The stack holds a word for each prefix and each operator whose right operand is not yet read, and 0 for a bracket without an operator.
+#![tactic(auto)]
+
 ghost use Rattle.std.specs.Prelude.{◌≡◌, List, ◌∷◌, ℕ, ◌+◌, ◌*◌, ◌-◌, ◌≤◌, ◌<◌, suc, length};
 ghost use Rattle.placing.specs.State.{state, written};
 ghost use Rattle.grammar.specs.Reader as machine;
@@ -9,7 +11,7 @@ ghost use Rattle.turns.specs.Numbers as numbers;
 use settling::{end, is_prefix};
 
 // What may come next: an operand; the digits after p, with the number so far; what follows an operand, with its number; or nothing.
-#[derive(Drop)]
+#[derive(Clone, Copy)]
 pub enum Turn {
     Operand,
     Letter(u32),
@@ -18,7 +20,7 @@ pub enum Turn {
 }
 
 // `left` has the bytes that a symbol still lacks, the next one lowest.
-#[derive(Drop)]
+#[derive(Clone, Copy)]
 pub struct Reader {
     pub left: u32,
     pub turn: Turn,

@@ -1,4 +1,6 @@
 // How many bytes a rule has as text, in the notation in which rules are typed: `true`, `p1`, `!p1`, `Xp1`, `(p1 U p2)`.
+#![tactic(auto)]
+
 ghost use Rattle.std.specs.Prelude.{◌≡◌, ◌-◌, ◌<◌, ◌≤◌, min, length, get_or, take};
 ghost use Rattle.table.specs.Table.{rule};
 ghost use Rattle.grammar.specs.Grammar.{decimal};

@@ -1,4 +1,6 @@
 // Words that name a letter which a recording, or a sample, does not drive.
+#![tactic(auto)]
+
 ghost use Rattle.std.specs.Prelude.{◌≡◌};
 ghost use Rattle.table.specs.StepChecks.{is_undriven};
 

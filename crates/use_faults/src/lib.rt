@@ -1,4 +1,6 @@
 // Whether every word but the last is an operand, by the marks.
+#![tactic(auto)]
+
 ghost use Rattle.std.specs.Prelude.{◌≡◌, ◌-◌, ◌≤◌, length};
 ghost use Rattle.refusals.specs.Refusals.{first};
 ghost use Rattle.table.specs.Checks.{use_checks};

@@ -1,4 +1,6 @@
 // The checks of a table whose watching automaton is asked for.
+#![tactic(auto)]
+
 ghost use Rattle.std.specs.Prelude.{◌≡◌};
 ghost use Rattle.refusals.specs.Refusals.{first};
 ghost use Rattle.automaton_steps.specs.Steps.{watched_checks};

@@ -1,4 +1,6 @@
 // The three fields of a word, and a word from its fields.
+#![tactic(auto)]
+
 ghost use Rattle.std.specs.Prelude.{◌≡◌, ◌<◌};
 ghost use Rattle.table.specs.Node as node;
 

@@ -1,4 +1,6 @@
 // What a backward sweep carries from one word of a row to the word below: handed on, and taken in. A word has n positions, 1 to 64 of them, in the n low bits, and nothing above them.
+#![tactic(auto)]
+
 ghost use Rattle.std.specs.Prelude.{◌≡◌, ℕ, ◌+◌, ◌≤◌};
 ghost use Rattle.logic.specs.Truth.{Sequence, sweep};
 ghost use Rattle.row_words.specs.Row as rows;

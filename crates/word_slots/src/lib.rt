@@ -1,4 +1,6 @@
 // The five slots of a word in a choice's draft, and the two of them that ask whether the word is chosen.
+#![tactic(auto)]
+
 ghost use Rattle.rewriting.specs.Slots as slots;
 ghost use Rattle.word_slots.specs.WordSlots as specs;
 

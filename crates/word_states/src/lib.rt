@@ -1,4 +1,6 @@
 // Which states a word has, from its class byte, and their numbers, from the number of the states before it.
+#![tactic(auto)]
+
 ghost use Rattle.std.specs.Prelude.{◌+◌, ◌<◌, ◌≡◌};
 ghost use Rattle.state_classes.specs.Kept.{offset};
 ghost use Rattle.class_bits.specs.Levels.{second_class};
@@ -7,7 +9,7 @@ ghost use Rattle.word_states.specs.States.{Small, Moving, Starting};
 use class_bits::{after, bit_of, in_second, level_of};
 
 // Whether there is a state of a Sigma class, of the Pi class of its level, and of a further class, and their numbers.
-#[derive(Drop)]
+#[derive(Clone, Copy)]
 pub struct Held {
     pub sigma: bool,
     pub pi: bool,

@@ -1,4 +1,6 @@
 // One word of a row from those of its operands, by a connective or a backward sweep: n positions, 1 to 64 of them, in the n low bits, and nothing above them.
+#![tactic(auto)]
+
 ghost use Rattle.std.specs.Prelude.{◌≡◌, false, ℕ, ◌+◌, ◌-◌, ◌≤◌};
 ghost use Rattle.logic.specs.Truth.{Sequence, sweep, across};
 ghost use Rattle.row_words.specs.Row as rows;
