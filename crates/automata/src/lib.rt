@@ -1,3 +1,2 @@
 // Alternating automata over samples, their runs and what they accept; no code.
 #![tactic(auto)]
-

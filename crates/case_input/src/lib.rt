@@ -1,7 +1,6 @@
 // What the case runner reads: words, and the tables and recordings that a case is about.
 #![tactic(auto)]
 
-
 // The head of a case is 19 words, by these numbers: the step (1 check, 2 class, 3 plain form, 4 normal form, 5 whole way, 6 judge, 7 row call, 8 text,
 // 9 dialect, 10 comparison, 11 step by a sample, 12 states of the automaton, 13 move of a state); how many words of a chain the table has
 // after its header, and how many are listed, the header and those after the chain; the number of a word that is replaced, the header being the first (0: none), and the word; the limits of the house, on written

@@ -1,3 +1,2 @@
 // What a conversion keeps, and its laws; no code.
 #![tactic(auto)]
-

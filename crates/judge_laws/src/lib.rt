@@ -1,3 +1,2 @@
 // The laws of a judgement's answer; no code.
 #![tactic(auto)]
-

@@ -1,3 +1,2 @@
 // Laws of a plain form's table, whoever makes it; no code.
 #![tactic(auto)]
-

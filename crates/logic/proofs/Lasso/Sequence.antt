@@ -126,4 +126,8 @@ module _ (s p : ℕ) where
 pub sweep-append : (g q : Sequence) (c : Bool) (i m n : ℕ) → sweep g q c i (m + n) ≡ sweep g q (sweep g q c (i + m) n) i m
 unfolding sweep
 sweep-append g q c i zero n = rw (zero-add, add-zero)
-sweep-append g q c i (suc m) n = rw (suc-add, add-suc, ← suc-add) (ap (λ x. g i || (q i && x)) (sweep-append g q c (suc i) m n))
+sweep-append g q c i (suc m) n =
+    let long : suc m + n ≡ suc (m + n) = omega arith in
+    let along : suc i + m ≡ i + suc m = omega arith in
+    ap (λ (k : ℕ). sweep g q c i k) long
+    ∙ ap (λ (x : Bool). g i || (q i && x)) (sweep-append g q c (suc i) m n ∙ ap (λ (k : ℕ). sweep g q (sweep g q c k n) (suc i) m) along)

@@ -1,0 +1,35 @@
+-- The checks of the table with its header, and where they pass those of the sample, of its words.
+use borrow.Author.Rules.{rules}
+use native.Mathlib.Omega.{arith}
+use Prim.Native.Nat.{ℕ, ◌≤◌}
+use mathlib.Core.Path.{◌≡◌, sym, ◌∙◌}
+use mathlib.Core.Bool.{true}
+use mathlib.Core.List.{List}
+use lib.ListN.{length}
+use Rattle.refusals.specs.declared.Outcome.TheVariants.{Accepted}
+use Rattle.table.specs.Header.{headed_checked}
+use Rattle.table.proofs.AfterStep.{table-refused, table-accepted}
+use Rattle.heading.proofs.Order.{whole_body, some_word}
+use Rattle.after_checks.proofs.check.Goals as goal
+
+module _ (c : goal.In-Accepted) where
+  abbrev t : List ℕ
+  t = c.args.table.now
+
+  told : headed_checked true 16383 t ≡ Accepted
+  told = sym c.check.ensures ∙ c.enum_told-1.given.1
+
+  some : 1 ≤ length t
+  some = some_word true 16383 t told
+
+pub slice_bounds-check_sample-count : goal.slice_bounds-check_sample-count
+slice_bounds-check_sample-count c = omega (arith, some c)
+
+pub slice_bounds-check_sample-start : goal.slice_bounds-check_sample-start
+slice_bounds-check_sample-start c = omega (arith, some c)
+
+pub returns-in-Refused : goal.returns-in-Refused
+returns-in-Refused c = sym (table-refused 0 _ _ _ (sym c.check.ensures ∙ c.r-1.given.1))
+
+pub returns-in-Accepted : goal.returns-in-Accepted
+returns-in-Accepted c = rw (whole_body (t c)) at c.check_sample.ensures ∙ sym (table-accepted 0 _ _ (told c))

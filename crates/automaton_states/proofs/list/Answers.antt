@@ -1,0 +1,16 @@
+-- The states fit the room of the slice, or the slice is cleared.
+use borrow.Author.Rules.{rules}
+use Rattle.automaton_states.proofs.Ends.{listed_made, listed-short}
+use Rattle.automaton_states.proofs.list.Goals as goal
+
+pub returns-then-n-room : goal.returns-then-n-room
+returns-then-n-room c =
+    let asked = c in
+    listed_made asked.write-n.ensures asked.room.ensures c.if-n-room.true
+
+pub returns : goal.returns
+returns c =
+    let cleared = c in
+    let tested = cleared in
+    let asked = tested in
+    listed-short asked.write-n.ensures asked.room.ensures tested.if-n-room.false cleared.words.ensures

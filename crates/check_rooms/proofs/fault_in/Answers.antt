@@ -1,0 +1,14 @@
+-- The words, and then their uses by the marks.
+use borrow.Author.Rules.{rules}
+use Rattle.check_rooms.proofs.fault_in.Goals as goal
+
+pub use_fault-requires : goal.use_fault-requires
+use_fault-requires c =
+    let read = c.words_fault in
+    (rw read.auto.1.1.1.0 c.requires.0.numbers, read.ensures.marked c.enum_told-1.given.1)
+
+pub returns-in-Refused : goal.returns-in-Refused
+returns-in-Refused c = rw (← c.words_fault.ensures.answer, c.r-1.given.1)
+
+pub returns-in-Accepted : goal.returns-in-Accepted
+returns-in-Accepted c = rw (← c.words_fault.ensures.answer, c.enum_told-1.given.1) c.use_fault.ensures

@@ -1,0 +1,62 @@
+-- The table first, then whether the bytes are enough, and then the bytes.
+use mathlib.Core.Path.{◌≡◌, sym, ◌∙◌}
+use mathlib.Core.Bool.{true}
+use Prim.Native.Nat.{◌-◌, ◌≤◌}
+use native.Mathlib.Omega.{arith}
+use lib.ListN.{length}
+use borrow.Author.Rules.{rules}
+use Rattle.refusals.specs.declared.Outcome.TheVariants.{Accepted}
+use Rattle.table.specs.Header.{headed_checked}
+use Rattle.table.specs.Frame.{class_step}
+use Rattle.table.proofs.Frame.{refused, refused-result, too_long, too_long-result, made, class-early}
+use Rattle.heading.proofs.Order.{some_word}
+use Rattle.classes.proofs.Room.{too_short, enough, long_enough, written}
+use Rattle.classes.proofs.classify.Goals as goal
+
+abbrev start : goal.In-Accepted → goal.Start
+start c = c
+
+-- the table has passed the checks
+accepted : (c : goal.In-Accepted) → headed_checked true 16383 (start c).args.table.now ≡ Accepted
+accepted c = sym c.check.ensures ∙ c.enum_told-1.given.1
+
+pub overflow_sub-table : goal.overflow_sub-table
+overflow_sub-table c = omega (arith, some_word _ _ _ (accepted c))
+
+pub returns-then-bytes-table : goal.returns-then-bytes-table
+unfolding headed_checked
+returns-then-bytes-table c =
+    let tested = c in
+    let t = (start tested).args.table.now in
+    let b = (start tested).args.bytes.now in
+    let a = accepted tested in
+    let f = too_short t a b (omega (arith, tested.if-bytes-table.true)) in
+    (sym (too_long class_step t b a f), c.bytes.ensures ∙ sym (too_long-result class_step t b a f))
+
+pub slice_bounds-fill-count : goal.slice_bounds-fill-count
+slice_bounds-fill-count c = omega (arith, some_word _ _ _ (accepted c))
+
+pub slice_bounds-fill-start : goal.slice_bounds-fill-start
+slice_bounds-fill-start c = omega (arith, some_word _ _ _ (accepted c))
+
+pub fill-requires : goal.fill-requires
+fill-requires c =
+    let tested = c in
+    enough (start tested).args.table.now (accepted tested) (start tested).args.bytes.now (omega (arith, tested.if-bytes-table.false))
+
+pub returns-in-Refused : goal.returns-in-Refused
+unfolding headed_checked
+returns-in-Refused c =
+    let s = c.args in
+    let e = sym c.check.ensures ∙ c.r-1.given.1 in
+    (sym (refused class_step s.table.now s.bytes.now _ e), sym (refused-result class_step s.table.now s.bytes.now class-early _ e))
+
+pub returns-else-bytes-table : goal.returns-else-bytes-table
+unfolding headed_checked
+returns-else-bytes-table c =
+    let tested = c in
+    let t = (start tested).args.table.now in
+    let b = (start tested).args.bytes.now in
+    let a = accepted tested in
+    let h : length t - 1 ≤ length b = omega (arith, tested.if-bytes-table.false) in
+    (sym (made class_step t b a (long_enough t a b h)), c.fill.ensures ∙ sym (written t a b h))

@@ -1,0 +1,29 @@
+-- The recording's checks, and where they pass that of the two counts.
+use mathlib.Core.Path.{sym, ◌∙◌}
+use borrow.Author.Rules.{rules}
+use borrow.Author.Tests.{eq-eqb, ne_eqb}
+use Rattle.refusals.proofs.First.{first_append-accepted, first_append-refused}
+use Rattle.judge_conditions.specs.Checks.{recording_checks}
+use Rattle.agreement.specs.Comparing.{count_checks}
+use Rattle.comparing.proofs.check_second.Goals as goal
+
+pub returns-in-Refused : goal.returns-in-Refused
+returns-in-Refused c =
+    let a = c.args in
+    sym (first_append-refused (recording_checks a.samples a.start a.driven) _ _ (sym c.check_recording.ensures ∙ c.why-1.given.1))
+
+pub returns-then-first_driven-driven : goal.returns-then-first_driven-driven
+unfolding count_checks
+returns-then-first_driven-driven c =
+    let a = c.args in
+    sym (first_append-accepted (recording_checks a.samples a.start a.driven) (count_checks a.first-driven a.driven)
+    (sym c.check_recording.ensures ∙ c.enum_told-1.given.1)
+    ∙ rw (eq-eqb _ _ c.if-first_driven-driven.true))
+
+pub returns-else-first_driven-driven : goal.returns-else-first_driven-driven
+unfolding count_checks
+returns-else-first_driven-driven c =
+    let a = c.args in
+    sym (first_append-accepted (recording_checks a.samples a.start a.driven) (count_checks a.first-driven a.driven)
+    (sym c.check_recording.ensures ∙ c.enum_told-1.given.1)
+    ∙ rw (ne_eqb _ _ c.if-first_driven-driven.false))

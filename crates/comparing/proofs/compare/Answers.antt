@@ -1,0 +1,37 @@
+-- Refused by the first check that applies; else two recordings, with all that a comparison rests on.
+use mathlib.Core.Path.{◌≡◌, sym, ap, ◌∙◌}
+use Prim.Native.Nat.{ℕ}
+use borrow.Author.Rules.{rules}
+use lib.ListN.{length}
+use Rattle.refusals.specs.declared.Outcome.TheVariants.{Accepted}
+use Rattle.refusals.specs.Refusals.{first}
+use Rattle.logic.specs.Lasso.{lasso_of}
+use Rattle.agreement.specs.Comparing.{comparison_checks, compared}
+use Rattle.agreement.proofs.Promise.{Comparable, comparable, refused, accepted}
+use Rattle.comparing.proofs.compare.Goals as goal
+
+module _ (c : goal.In-Accepted) where
+  abbrev start : goal.Start
+  start = c
+
+  passed : first (comparison_checks (length start.args.samples.now) start.args.start start.args.driven
+      (length start.args.others.now) start.args.other-start start.args.other-driven) ≡ Accepted
+  passed = sym c.check_both.ensures ∙ c.enum_told-1.given.1
+
+  facts : Comparable start.args.samples.now start.args.start start.args.driven start.args.others.now start.args.other-start start.args.other-driven
+  facts = comparable _ _ _ _ _ _ passed
+
+pub first_difference-requires : goal.first_difference-requires
+first_difference-requires c = let f = facts c in (f.few_samples, f.few_samples', f.inside, f.inside', f.few)
+
+pub returns-in-Refused : goal.returns-in-Refused
+returns-in-Refused c =
+    let a = c.args in
+    sym (refused a.samples.now a.start a.driven a.others.now a.other-start a.other-driven _ (sym c.check_both.ensures ∙ c.why-1.given.1))
+
+pub returns-in-Accepted : goal.returns-in-Accepted
+returns-in-Accepted c =
+    let a = (start c).args in
+    c.first_difference.ensures
+    ∙ ap (λ (k : ℕ). compared (lasso_of a.samples.now a.start a.driven) (lasso_of a.others.now a.other-start k)) (facts c).counts
+    ∙ sym (accepted a.samples.now a.start a.driven a.others.now a.other-start a.other-driven (passed c))

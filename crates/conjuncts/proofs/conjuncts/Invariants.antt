@@ -1,0 +1,15 @@
+-- The conjuncts of the words so far are joined.
+use Prim.Native.Nat.{◌-◌}
+use mathlib.Core.Logic.{⊎_elim}
+use lib.ListN.{length}
+use native.Mathlib.Omega.{arith}
+use borrow.Author.Rules.{rules}
+use Rattle.conjuncts.proofs.Conjoining.{Joining, joining_none, joining_other, joining_left, joining_room, joining_taken, joining_all}
+use Rattle.fixpoints.proofs.Positions.{kept_small}
+use Rattle.conjuncts.proofs.conjuncts.Given as goal
+
+abbrev pub invariant-loop-i : goal.invariant-loop-i
+invariant-loop-i l = Joining l.fixpoint l.table l.choice l.initial.draft l.first l.draft l.next l.i
+
+abbrev pub decreases-loop-i : goal.decreases-loop-i
+decreases-loop-i l = length l.table - l.i

@@ -1,0 +1,32 @@
+use borrow.Author.Rules.{rules}
+use Prim.Native.Nat.{◌≤◌, ◌-◌, ◌/◌, min}
+use mathlib.Core.Path.{◌≡◌, refl}
+use mathlib.Core.Logic.{⊎_elim}
+use mathlib.Core.List.{◌++◌}
+use native.Mathlib.Omega.{arith}
+use lib.ListN.{length, drop, length-set}
+use Rattle.decoding.specs.Words.{decoded}
+use Rattle.decoding.proofs.Words.{word_more}
+use Rattle.decoding.proofs.decode.Goals as goal
+
+pub loop-i-init : goal.loop-i-init
+unfolding decoded
+loop-i-init c = ⊎_elim (λ w. (omega arith, omega arith, omega arith, refl, refl, omega arith)) (λ w. (omega arith, omega arith, omega arith, refl, refl, omega arith)) c.if-out-n.branch
+
+pub loop-i-preserved : goal.loop-i-preserved
+loop-i-preserved c = (
+  omega arith,
+  omega arith,
+  omega arith,
+  simp length-set (omega arith),
+  rw c.loop-i.invariant.4 (word_more _ _ _ _ (omega arith) c.word.ensures),
+  c.loop-i.invariant.5,
+)
+
+pub shape_of-out : goal.shape_of-out
+shape_of-out c = c.loop-i.invariant.3
+
+pub returns : goal.returns
+returns c =
+    let e : c.loop-i.i ≡ c.if-out-n.n = omega arith in
+    (c.loop-i.invariant.5, rw (← e) c.loop-i.invariant.4)

@@ -1,0 +1,6 @@
+use native.Mathlib.Omega.{arith}
+use borrow.Author.Rules.{rules}
+use Rattle.decoding.proofs.joined.Goals as goal
+
+pub returns : goal.returns
+returns c = omega arith

@@ -1,0 +1,38 @@
+-- The table is refused, or its words are converted.
+use borrow.Author.Rules.{rules}
+use native.Mathlib.Omega.{arith}
+use mathlib.Core.Path.{◌≡◌, sym, ◌∙◌}
+use mathlib.Core.Bool.{true}
+use Rattle.refusals.specs.declared.Outcome.TheVariants.{Accepted}
+use Rattle.table.specs.Header.{headed_checked}
+use Rattle.heading.proofs.Order.{some_word}
+use Rattle.dialect.proofs.Step.{words-accepted, refused, made}
+use Rattle.dialect.proofs.convert.Goals as goal
+
+abbrev start : goal.In-Accepted → goal.Start
+start c = c
+
+-- the table has passed the checks
+accepted : (c : goal.In-Accepted) → headed_checked true 16383 (start c).args.table.now ≡ Accepted
+accepted c = sym c.check.ensures ∙ c.enum_told-1.given.1
+
+pub slice_bounds-answer-count : goal.slice_bounds-answer-count
+slice_bounds-answer-count c = omega (arith, some_word _ _ _ (accepted c))
+
+pub slice_bounds-answer-start : goal.slice_bounds-answer-start
+slice_bounds-answer-start c = omega (arith, some_word _ _ _ (accepted c))
+
+pub answer-requires : goal.answer-requires
+answer-requires c = words-accepted _ (accepted c)
+
+pub returns-in-Refused : goal.returns-in-Refused
+returns-in-Refused c =
+    let start = c in
+    let r = refused start.args.table.now start.args.res.now c.r-1.given.0.0 (sym c.check.ensures ∙ c.r-1.given.1) in
+    (r.reply, r.slice)
+
+pub returns-in-Accepted : goal.returns-in-Accepted
+returns-in-Accepted c =
+    let told = c in
+    let r = made (start told).args.table.now (start told).args.res.now (accepted told) c.answer.ensures in
+    (r.reply, r.slice)

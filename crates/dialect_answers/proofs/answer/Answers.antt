@@ -1,0 +1,31 @@
+-- A slice without a word is 12; otherwise the conversion is written after the place of its header.
+use borrow.Author.Rules.{rules}
+use native.Mathlib.Omega.{arith}
+use mathlib.Core.Path.{refl}
+use Rattle.headed_answers.proofs.Ends.{given_empty}
+use Rattle.table.specs.Steps.{dialect_table}
+use Rattle.headed_answers.proofs.Lent.{left_finishable, left_given}
+use Rattle.dialect_laws.proofs.Promise.{dialect-accepted}
+use Rattle.dialect_answers.proofs.answer.Goals as goal
+
+pub finish-requires : goal.finish-requires
+finish-requires c = record { within = λ z. absurd (z refl); words = λ z. absurd (z refl) }
+
+pub returns-then-res-eq0 : goal.returns-then-res-eq0
+returns-then-res-eq0 c =
+    let empty = c in
+    given_empty _ empty.args.res.now (omega (arith, empty.if-res-eq0.true)) c.finish.ensures
+
+pub finish-requires-2 : goal.finish-requires-2
+finish-requires-2 c =
+    let wrote = c in
+    let tested = wrote in
+    let start = tested in
+    left_finishable (dialect_table start.args.words.now) start.args.res.now (dialect-accepted start.args.words.now start.requires) tested.if-res-eq0.false wrote.write-n.auto.1.0 wrote.write-n.ensures
+
+pub returns : goal.returns
+returns c =
+    let wrote = c in
+    let tested = wrote in
+    let start = tested in
+    left_given (dialect_table start.args.words.now) start.args.res.now (dialect-accepted start.args.words.now start.requires) tested.if-res-eq0.false wrote.write-n.auto.1.0 wrote.write-n.ensures c.finish-2.ensures

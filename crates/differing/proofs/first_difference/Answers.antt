@@ -1,0 +1,109 @@
+use Prim.Native.Nat.{ℕ, suc, ◌+◌, ◌-◌, ◌≤◌, ◌<◌}
+use mathlib.Core.Path.{◌≡◌, sym, ap, ap₂, ◌∙◌}
+use mathlib.Core.Bool.{cond}
+use borrow.Author.Rules.{rules}
+use native.Mathlib.Omega.{arith}
+use lib.ListN.{length, get_or}
+use lib.Dec.{ltb}
+use borrow.Author.Tests.{not-true, not-false}
+use Rattle.logic.specs.Lasso.{place, lasso_of}
+use Rattle.logic.proofs.Lasso.Period.{place_below, place_lt}
+use Rattle.agreement.specs.Comparing.{alike, difference_in, window, compared}
+use Rattle.agreement.proofs.Reading.{reading, place_next, compared-reading, passed_same, passed_differ, passed_all}
+use Rattle.differing.proofs.first_difference.Goals as goal
+
+-- what the two samples that were read say of the moment
+module _ (c : goal.After-alike) where
+  abbrev l : goal.At-loop-i
+  l = c
+
+  abbrev start : goal.Start
+  start = l.before.before.before.before.before
+
+  told : c.alike.result ≡ alike start.args.driven
+      (reading start.args.samples.now start.args.start l.loop.i) (reading start.args.others.now start.args.other-start l.loop.i)
+  told =
+      c.alike.ensures start.args.driven l.before.before.driven-bits.ensures
+      ∙ ap₂ (alike start.args.driven) (ap (λ (p : ℕ). get_or start.args.samples.now p 0) l.loop.inv.3) (ap (λ (p : ℕ). get_or start.args.others.now p 0) l.loop.inv.4)
+
+-- the answer is that of a search from the moment on
+searched : (l : goal.At-loop-i) →
+    let s = l in
+    compared (lasso_of s.args.samples.now s.args.start s.args.driven) (lasso_of s.args.others.now s.args.other-start s.args.driven)
+    ≡ difference_in s.args.driven (reading s.args.samples.now s.args.start) (reading s.args.others.now s.args.other-start) l.loop-i.i
+    (l.window-moments.result - l.loop-i.i)
+searched l =
+    let s = l in
+    compared-reading s.args.samples.now s.args.start s.args.others.now s.args.other-start s.args.driven s.requires.2 s.requires.3 s.requires.4
+    ∙ l.loop-i.invariant.5
+
+pub driven_bits-bits-requires : goal.driven_bits-bits-requires
+driven_bits-bits-requires c = search rules
+
+pub window-moments-requires : goal.window-moments-requires
+window-moments-requires c = search rules
+
+pub loop-i-init : goal.loop-i-init
+loop-i-init c =
+    let a = c.args in
+    let p = c.requires in
+    let zero : c.window-moments.result - 0 ≡ window (length a.samples.now) a.start (length a.others.now) a.other-start = omega arith in (
+      omega arith,
+      omega arith,
+      omega arith,
+      sym (place_below (length a.samples.now) a.start 0 (omega arith)),
+      sym (place_below (length a.others.now) a.other-start 0 (omega arith)),
+      ap (difference_in a.driven (reading a.samples.now a.start) (reading a.others.now a.other-start) 0) (sym zero),
+    )
+
+pub offset_bounds-samples-at : goal.offset_bounds-samples-at
+offset_bounds-samples-at c = search rules
+
+pub bounds-samples-at : goal.bounds-samples-at
+bounds-samples-at c = search rules
+
+pub offset_bounds-others-other : goal.offset_bounds-others-other
+offset_bounds-others-other c = search rules
+
+pub bounds-others-other : goal.bounds-others-other
+bounds-others-other c = search rules
+
+pub alike-requires : goal.alike-requires
+alike-requires c = search rules
+
+pub returns-then-not-alike : goal.returns-then-not-alike
+returns-then-not-alike c = sym (searched (l c) ∙ passed_differ _ _ _ _ _ c.loop-i-test.true (sym (told c) ∙ not-true c.alike.result c.if-not-alike.true))
+
+pub following-at-requires : goal.following-at-requires
+following-at-requires c = search rules
+
+pub following-other-requires : goal.following-other-requires
+following-other-requires c = search rules
+
+pub overflow_add-i : goal.overflow_add-i
+overflow_add-i c = search rules
+
+pub loop-i-smaller : goal.loop-i-smaller
+loop-i-smaller c = omega arith
+
+pub loop-i-preserved : goal.loop-i-preserved
+loop-i-preserved c =
+    let e = c in
+    let s = start e in
+    let i : suc (l e).loop.i ≡ (l e).loop.i + 1 = omega arith in
+    let at : c.following-at.result ≡ place (length s.args.samples.now) s.args.start ((l e).loop.i + 1) =
+    c.following-at.ensures ∙ ap (λ (p : ℕ). cond (ltb (p + 1) (length s.args.samples.now)) (p + 1) s.args.start) (l e).loop.invariant.3
+    ∙ sym (place_next _ _ (l e).loop.i s.pre.2) ∙ ap (place (length s.args.samples.now) s.args.start) i in
+    let other : c.following-other.result ≡ place (length s.args.others.now) s.args.other-start ((l e).loop.i + 1) =
+    c.following-other.ensures ∙ ap (λ (p : ℕ). cond (ltb (p + 1) (length s.args.others.now)) (p + 1) s.args.other-start) (l e).loop.invariant.4
+    ∙ sym (place_next _ _ (l e).loop.i s.pre.3) ∙ ap (place (length s.args.others.now) s.args.other-start) i in (
+      omega (arith, e.loop-i-test.true),
+      omega (arith, at, place_lt (length s.args.samples.now) s.args.start ((l e).loop.i + 1) s.pre.2),
+      omega (arith, other, place_lt (length s.args.others.now) s.args.other-start ((l e).loop.i + 1) s.pre.3),
+      at,
+      other,
+      (l e).loop.invariant.5 ∙ passed_same _ _ _ _ _ e.loop-i-test.true (sym (told e) ∙ not-false e.alike.result c.if-not-alike.false),
+    )
+
+pub returns : goal.returns
+returns c = sym (searched c ∙ passed_all _ _ _ _ _ c.loop-i-test.false)

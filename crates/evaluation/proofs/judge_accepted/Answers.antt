@@ -1,0 +1,50 @@
+-- The rows are those of the definition, and what is read off the last of them is the reply.
+use Prim.Native.Nat.{◌+◌, ◌-◌, ◌*◌, ◌≤◌}
+use borrow.Author.Rules.{rules}
+use lib.ListN.{length}
+use native.Mathlib.Omega.{arith}
+use mathlib.Core.Path.{refl}
+use Rattle.judging.proofs.LastRow.{some_word, last_small, last_end, last_for, last_row_lem, accepted-answer}
+use Rattle.table_rows.proofs.Parts.{fillable-length}
+use Rattle.table_rows.specs.Rows.{Fillable}
+use Rattle.evaluation.proofs.judge_accepted.Goals as goal
+
+still-fillable : (c : goal.After-fill_rows)
+    → Fillable c.args.table.now c.args.samples.now c.args.start c.fill_rows.new.1.1.1.0
+still-fillable c = fillable-length _ _ c.fill_rows.auto.1.1.1.0 c.requires
+
+small : (c : goal.After-row_words-words) → (length c.args.table.now - 1) * c.row_words-words.result + c.row_words-words.result ≤ 1048576
+small c = last_small _ _ _ _ _ _ c.requires refl c.row_words-words.ensures
+
+pub fill_rows-requires : goal.fill_rows-requires
+fill_rows-requires c = c.requires
+
+pub row_words-words-requires : goal.row_words-words-requires
+row_words-words-requires c = c.requires.few
+
+pub overflow_sub-from : goal.overflow_sub-from
+overflow_sub-from c = some_word _ _ _ _ _ _ c.requires refl c.row_words-words.ensures
+
+pub overflow_mul-from : goal.overflow_mul-from
+overflow_mul-from c = omega (arith, small c)
+
+pub overflow_add-to : goal.overflow_add-to
+overflow_add-to c = omega (arith, small c)
+
+pub offset_bounds-scratch-from : goal.offset_bounds-scratch-from
+offset_bounds-scratch-from c = omega (arith, small c)
+
+pub slice_bounds-read_answer-end : goal.slice_bounds-read_answer-end
+slice_bounds-read_answer-end c = last_end _ _ _ _ _ _ (still-fillable c) refl c.row_words-words.ensures
+
+pub read_answer-requires : goal.read_answer-requires
+read_answer-requires c = last_for _ _ _ _ _ _ (still-fillable c) refl c.row_words-words.ensures
+
+pub returns : goal.returns
+returns c = (
+  λ driven few e.
+      accepted-answer _ _ _ driven _ _ _ c.requires.inside few e
+      (last_row_lem _ _ _ _ _ _ (still-fillable c) refl c.row_words-words.ensures driven few _ (c.fill_rows.ensures driven few))
+      c.read_answer.ensures,
+  c.fill_rows.ensures,
+)

@@ -1,0 +1,21 @@
+-- The invariant: what all words are refused for is what those from number i + 1 on are, and the first i words are in the index and have their operands marked.
+use Prim.Native.Nat.{◌-◌, ◌≤◌}
+use mathlib.Core.Path.{◌≡◌, refl, sym, ◌∙◌}
+use mathlib.Core.List.{[]}
+use native.Mathlib.Omega.{arith}
+use lib.ListN.{length, take, drop, drop_of_length-le}
+use lib.Seq.{take_all}
+use borrow.Author.Rules.{rules}
+use Rattle.refusals.specs.Refusals.{first}
+use Rattle.table.specs.Checks.{words_checks}
+use Rattle.faults.specs.Marks.{Kept}
+use Rattle.faults.proofs.First.{words_step, refused_kept}
+use Rattle.faults.proofs.Marking.{room_kept}
+use Rattle.faults.proofs.words.words_fault.Given as goal
+
+abbrev pub invariant-loop-i : goal.invariant-loop-i
+invariant-loop-i l = (l.i ≤ length l.words) × (first (words_checks l.plain [] l.words) ≡ first (words_checks l.plain (take l.i l.words) (drop l.i l.words)))
+    × (length l.index ≡ length l.initial.index) × (length l.marks ≡ length l.initial.marks) × Kept (take l.i l.words) l.index l.marks
+
+abbrev pub decreases-loop-i : goal.decreases-loop-i
+decreases-loop-i l = length l.words - l.i

@@ -1,0 +1,46 @@
+-- Kind 0, kinds that are not plain, and then the fields by their layout.
+use Prim.Native.Nat.{ℕ}
+use mathlib.Core.Path.{◌≡◌, sym, ap, ◌∙◌}
+use mathlib.Core.Bool.{false, ◌&&◌}
+use mathlib.Core.Logic.{⊎_elim}
+use lib.Dec.{leb}
+use native.Mathlib.Omega.{arith}
+use borrow.Author.Tests.{eq-eqb, ne_eqb}
+use borrow.Author.Rules.{rules}
+use Rattle.table.specs.Node.{kind, shape}
+use Rattle.table.proofs.Fields.{kind_lt}
+use Rattle.layouts.specs.Layout.{layout_of}
+use Rattle.field_checks.proofs.First.{refused}
+use Rattle.fields.proofs.Layouts.{word_by_layout}
+use Rattle.fields.proofs.fault.Goals as goal
+
+-- past the first two checks
+plain-enough : (c : goal.Joined-else-plain) → (c.args.plain && leb 12 c.kind-kind.result) ≡ false
+plain-enough c = ⊎_elim (λ w. rw w.0.taken w.1.left) (λ w. rw w.left) c.else-plain.branch
+
+pub returns-then-kind-eq0 : goal.returns-then-kind-eq0
+returns-then-kind-eq0 c = refused (rw (word_by_layout, eq-eqb (kind c.args.w) 0 (sym c.kind-kind.ensures ∙ c.if-kind-eq0.true)))
+
+pub returns-then-kind-ge12 : goal.returns-then-kind-ge12
+returns-then-kind-ge12 c = refused (rw (word_by_layout, ← c.kind-kind.ensures, ne_eqb _ _ c.if-kind-eq0.false, c.else-plain.true, c.if-kind-ge12.true))
+
+pub of_kind-requires : goal.of_kind-requires
+of_kind-requires c = (omega (arith, c.if-kind-eq0.false), rw c.kind-kind.ensures (kind_lt c.args.w (omega arith)))
+
+pub returns : goal.returns
+returns c =
+    let laid : c.of_kind.result ≡ layout_of (shape (kind c.args.w)) = c.of_kind.ensures ∙ ap (λ (k : ℕ). layout_of (shape k)) c.kind-kind.ensures in
+    let read = c.field_fault.ensures in
+    record {
+      answer =
+          rw (
+            word_by_layout,
+            ne_eqb (kind c.args.w) 0 (rw c.kind-kind.ensures at c.if-kind-eq0.false),
+            rw c.kind-kind.ensures at (plain-enough c),
+            ← laid,
+            ← c.left.ensures,
+            ← c.right.ensures,
+          )
+          read.answer;
+      passed = λ z. rw (← laid, ← c.left.ensures, ← c.right.ensures) (read.passed z);
+    }

@@ -1,0 +1,31 @@
+use borrow.Author.Rules.{rules}
+use native.Mathlib.Omega.{arith}
+use mathlib.Core.Path.{sym, ◌∙◌}
+use Rattle.table.specs.Header.{class_of}
+use Rattle.header_classes.proofs.Headable.{some, plain-words, last_byte}
+use Rattle.header_classes.proofs.class_in.Reads as reads
+use Rattle.header_classes.proofs.class_in.Lts as lts
+use Rattle.class_bytes.proofs.fill.fill.Reads as fill-reads
+use Rattle.header_classes.proofs.is_written.Reads as is-written-reads
+use Rattle.header_classes.proofs.class_in.Goals as goal
+
+pub returns-then-is_written : goal.returns-then-is_written
+unfolding class_of
+returns-then-is_written c = rw (← c.is_written.ensures, c.if-is_written.true)
+
+pub fill-requires : goal.fill-requires
+fill-requires c = let start = c in (plain-words start.requires.0 (sym c.is_written.ensures ∙ c.if-is_written.false), start.requires.1)
+
+pub overflow_sub-result : goal.overflow_sub-result
+overflow_sub-result c = some c.requires.0
+
+pub bounds-bytes-words : goal.bounds-bytes-words
+bounds-bytes-words c =
+    let q = c.requires in
+    omega (arith, some q.0, q.1, c.fill.auto.1.0)
+
+pub returns : goal.returns
+returns c =
+    let start = c in
+    let told = c in
+    rw c.fill.ensures (last_byte start.requires.0 (sym told.is_written.ensures ∙ told.if-is_written.false) _)

@@ -1,0 +1,28 @@
+use borrow.Author.Rules.{rules}
+use Prim.Native.Nat.{◌-◌}
+use native.Mathlib.Omega.{arith}
+use mathlib.Core.Path.{◌≡◌, refl, sym, ◌∙◌}
+use borrow.Author.Tests.{le-leb, lt-leb}
+use lib.ListN.{length, drop}
+use Rattle.table.specs.Header.{is_written}
+use Rattle.header_classes.proofs.Headable.{written_step, written_none}
+use Rattle.header_classes.proofs.is_written.Reads as reads
+use Rattle.header_classes.proofs.is_written.Lts as lts
+use Rattle.word.proofs.kind.Reads as kind-reads
+use Rattle.header_classes.proofs.is_written.Goals as goal
+
+pub loop-i-init : goal.loop-i-init
+loop-i-init c = refl
+
+pub returns-then-kind-ge12 : goal.returns-then-kind-ge12
+returns-then-kind-ge12 c =
+    let at-loop = c in
+    sym (at-loop.loop-i.invariant ∙ written_step _ at-loop.loop-i.i (omega arith) ∙ rw (← c.kind.ensures, le-leb _ _ c.if-kind-ge12.true))
+
+pub loop-i-preserved : goal.loop-i-preserved
+loop-i-preserved c =
+    let at-loop = c in
+    at-loop.loop-i.invariant ∙ written_step _ at-loop.loop-i.i (omega arith) ∙ rw (← c.kind.ensures, lt-leb _ _ c.if-kind-ge12.false)
+
+pub returns : goal.returns
+returns c = sym (c.loop-i.invariant ∙ written_none _ _ c.loop-i-test.false)

@@ -1,0 +1,11 @@
+-- The answer in lent numbers is the reply's, and so are the tally and the scratch.
+use borrow.Author.Rules.{rules}
+use mathlib.Core.Path.{ap}
+use Rattle.judging.specs.declared.answer.Judged.{Judged}
+use Rattle.judge_calls.proofs.Replied.{judge_replied}
+use Rattle.judge_calls.proofs.judge.Goals as goal
+
+pub returns : goal.returns
+returns c =
+    let e = c.judge-judged.ensures in
+    (judge_replied (ap (λ (j : Judged). j.answer) e.0) c.judge_reply-number.ensures, (ap (λ (j : Judged). j.tally) e.0, e.1))

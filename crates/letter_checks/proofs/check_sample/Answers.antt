@@ -1,0 +1,13 @@
+-- The driven count, and where it passes the letters.
+use borrow.Author.Rules.{rules}
+use borrow.Author.Tests.{lt-ltb, le-ltb}
+use Rattle.table.specs.StepChecks.{driven_checks}
+use Rattle.letter_checks.proofs.check_sample.Goals as goal
+
+pub returns-then-driven-gt32 : goal.returns-then-driven-gt32
+unfolding driven_checks
+returns-then-driven-gt32 c = simp (lt-ltb _ _ c.if-driven-gt32.true)
+
+pub returns : goal.returns
+unfolding driven_checks
+returns c = rw (le-ltb _ _ c.if-driven-gt32.false) c.check_letters.ensures

@@ -1,0 +1,14 @@
+-- The letter's word, or the word with every bit denied.
+use borrow.Author.Rules.{rules}
+use Rattle.letter_rows.proofs.Denied.{held, denied}
+use Rattle.letter_rows.proofs.letters.Goals as goal
+
+pub returns-then-positive : goal.returns-then-positive
+returns-then-positive c =
+    let a = c.args in
+    held a.samples.now a.letter a.positive a.first a.n _ c.by_eights-word.ensures c.if-positive.true
+
+pub returns : goal.returns
+returns c =
+    let a = c.args in
+    denied a.samples.now a.letter a.positive a.first a.n _ c.by_eights-word.ensures _ c.ones.ensures c.if-positive.false

@@ -1,0 +1,12 @@
+-- One byte for each of the three cases.
+use borrow.Author.Rules.{rules}
+use Rattle.operator_bytes.proofs.byte.binary.Goals as goal
+
+pub returns-in-Boolean : goal.returns-in-Boolean
+returns-in-Boolean c = rw c.enum_told-1.given.1
+
+pub returns-in-Least : goal.returns-in-Least
+returns-in-Least c = rw c.enum_told-in-Least-1.given.1 c.least.ensures
+
+pub returns-in-Greatest : goal.returns-in-Greatest
+returns-in-Greatest c = rw c.enum_told-in-Greatest-1.given.1 c.greatest.ensures

@@ -1,0 +1,85 @@
+use Prim.Native.Nat.{◌-◌, ◌≤◌}
+use native.Mathlib.Omega.{arith}
+use mathlib.Core.Path.{◌≡◌, refl, sym, ◌∙◌}
+use mathlib.Core.Bool.{true≢false}
+use lib.ListN.{length}
+use borrow.Author.Rules.{rules}
+use Rattle.placing.specs.State.{state, Numbered}
+use Rattle.settling.specs.Settled.{Room}
+use Rattle.turns.specs.Numbers.{viewed, Fit}
+use Rattle.settling.proofs.Settling.{top-length}
+use Rattle.parsing.proofs.Parsing.{Going, going_more, going-dead, going-read, going-early, going_room, fresh-going, departed, was_read}
+use Rattle.parsing.proofs.parse.Goals as goal
+
+abbrev start : goal.At-loop-i → goal.Start
+start c = c
+
+room : (c : goal.At-loop-i) → Room c.loop-i.stack (state c.loop-i.out c.loop-i.index) c.loop-i.r.depth 1
+room c =
+    let inv = c.loop-i.invariant in
+    let pre = (start c).requires in
+    going_room _ _ c.loop-i.r _ _ inv.4 (inv.0 ∙ pre.long) (inv.1 ∙ pre.wide) inv.6 (omega (arith, inv.3, pre.short))
+
+pub loop-i-init : goal.loop-i-init
+loop-i-init c =
+    let pre = c.requires in
+    (refl, refl, refl, omega arith, pre.numbered, tt, fresh-going _ _ _ pre)
+
+pub step-r-requires : goal.step-r-requires
+step-r-requires c =
+    let at-loop = c in
+    (room at-loop, at-loop.loop-i.invariant.5)
+
+pub is_stuck-requires : goal.is_stuck-requires
+is_stuck-requires c = search rules
+
+pub returns-then-is_stuck : goal.returns-then-is_stuck
+returns-then-is_stuck c =
+    let at-step = c in
+    let at-loop = at-step in
+    let m = at-step.step-r.ensures in
+    departed _ _ _ m.numbered
+    (going-dead _ _ _ _ at-loop.loop-i.invariant.6 at-step.loop-i-test.true (start at-loop).requires.short m.same (sym c.is_stuck.ensures ∙ c.if-is_stuck.true))
+
+pub loop-i-preserved : goal.loop-i-preserved
+loop-i-preserved c =
+    let at-step = c in
+    let at-loop = at-step in
+    let m = at-step.step-r.ensures in (
+      omega arith,
+      omega arith,
+      omega arith,
+      omega arith,
+      m.numbered,
+      m.fit,
+      going_more _ _ _ _ at-loop.loop-i.invariant.6 at-step.loop-i-test.true (start at-loop).requires.short m.same (sym c.is_stuck.ensures ∙ c.if-is_stuck.false),
+    )
+
+pub step-q-requires : goal.step-q-requires
+step-q-requires c =
+    let at-loop = c in
+    (room at-loop, at-loop.loop-i.invariant.5)
+
+pub returns-then-depth-ne0 : goal.returns-then-depth-ne0
+returns-then-depth-ne0 c =
+    let at-step = c in
+    let at-loop = at-step in
+    let m = at-step.step-q.ensures in
+    departed _ _ _ m.numbered (going-early _ _ _ _ at-loop.loop-i.invariant.6 at-step.loop-i-test.false at-loop.loop-i.invariant.3 (start at-loop).requires.short m.same (λ e l. c.if-depth-ne0.true (sym (top-length _ _) ∙ l)))
+
+pub is_ended-requires : goal.is_ended-requires
+is_ended-requires c = search rules
+
+pub returns-then-is_ended : goal.returns-then-is_ended
+returns-then-is_ended c =
+    let at-step = c in
+    let at-loop = at-step in
+    let m = at-step.step-q.ensures in
+    was_read _ _ m.numbered (going-read _ _ _ _ at-loop.loop-i.invariant.6 at-step.loop-i-test.false at-loop.loop-i.invariant.3 (start at-loop).requires.short m.same (sym c.is_ended.ensures ∙ c.if-is_ended.true) (top-length _ _ ∙ c.if-depth-ne0.false))
+
+pub returns : goal.returns
+returns c =
+    let at-step = c in
+    let at-loop = at-step in
+    let m = at-step.step-q.ensures in
+    departed _ _ _ m.numbered (going-early _ _ _ _ at-loop.loop-i.invariant.6 at-step.loop-i-test.false at-loop.loop-i.invariant.3 (start at-loop).requires.short m.same (λ e l. true≢false (sym e ∙ sym c.is_ended.ensures ∙ c.if-is_ended.false)))

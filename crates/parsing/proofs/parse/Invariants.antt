@@ -1,0 +1,25 @@
+-- The loop's invariant is that of proofs/Parsing: a state of the reader whose image the code holds.
+use Prim.Native.Nat.{◌-◌, ◌≤◌}
+use native.Mathlib.Omega.{arith}
+use mathlib.Core.Path.{◌≡◌, refl, sym, ◌∙◌}
+use mathlib.Core.Bool.{true≢false}
+use lib.ListN.{length}
+use borrow.Author.Rules.{rules}
+use Rattle.placing.specs.State.{state, Numbered}
+use Rattle.settling.specs.Settled.{Room}
+use Rattle.turns.specs.Numbers.{viewed, Fit}
+use Rattle.settling.proofs.Settling.{top-length}
+use Rattle.parsing.proofs.Parsing.{Going, going_more, going-dead, going-read, going-early, going_room, fresh-going, departed, was_read}
+use Rattle.parsing.proofs.parse.Given as goal
+
+abbrev pub invariant-loop-i : goal.invariant-loop-i
+invariant-loop-i l = (length l.stack ≡ length l.initial.stack)
+    × (length l.out ≡ length l.initial.out)
+    × (length l.index ≡ length l.initial.index)
+    × (l.i ≤ length l.text)
+    × Numbered (state l.out l.index)
+    × Fit l.r.turn
+    × Going l.text l.i (viewed l.r l.stack (state l.out l.index))
+
+abbrev pub decreases-loop-i : goal.decreases-loop-i
+decreases-loop-i l = length l.text - l.i

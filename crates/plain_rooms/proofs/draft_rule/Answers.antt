@@ -1,0 +1,13 @@
+use borrow.Author.Rules.{rules}
+use Rattle.table.specs.Table.{rule}
+use Rattle.plain_rooms.proofs.Start.{started}
+use Rattle.plain_rooms.proofs.draft_rule.Goals as goal
+
+pub wanted-requires : goal.wanted-requires
+wanted-requires c =
+    let first = c in
+    started first.requires first.store.ensures c.store-2.ensures
+
+pub returns : goal.returns
+unfolding rule
+returns c = c.wanted.ensures.drafted

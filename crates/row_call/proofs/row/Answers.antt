@@ -1,0 +1,21 @@
+-- The rows of what is accepted end at a small number, and the last of them is the rule's own.
+use borrow.Author.Rules.{rules}
+use mathlib.Core.Path.{refl, sym, ◌∙◌}
+use Rattle.judging.proofs.Accepted.{accepted-fillable, accepted-words}
+use Rattle.judging.proofs.LastRow.{words_before, last_small}
+use Rattle.row_call.proofs.Replied.{reply-told, scratch-told}
+use Rattle.row_call.proofs.row.Goals as goal
+
+pub row_reply-requires : goal.row_reply-requires
+row_reply-requires c e =
+    let accepted = sym c.fill-outcome.ensures.0 ∙ e in
+    let facts = accepted-fillable _ _ _ _ _ accepted in (
+      accepted-words _ _ _ _ _ accepted,
+      facts.few,
+      last_small _ _ _ _ _ _ facts (words_before c.args.table.now) refl,
+    )
+
+pub returns : goal.returns
+returns c =
+    let e = c.fill-outcome.ensures in
+    (reply-told c.args.table.now e.0 c.row_reply.ensures, scratch-told _ _ _ _ _ e.0 e.1)

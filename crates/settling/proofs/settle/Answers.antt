@@ -1,0 +1,50 @@
+use Prim.Native.Nat.{◌-◌}
+use native.Mathlib.Omega.{arith}
+use mathlib.Core.Path.{◌≡◌, refl, sym, ◌∙◌}
+use lib.ListN.{length}
+use borrow.Author.Rules.{rules}
+use borrow.Author.Tests.{not-true, not-false}
+use Rattle.table.proofs.Fields.{kind_lt}
+use Rattle.placing.specs.State.{state}
+use Rattle.settling.proofs.Settling.{Settling, settling_none, settling_more, settling_stop, settling_empty}
+use Rattle.settling.proofs.settle.Goals as goal
+
+abbrev start : goal.At-loop-top → goal.Start
+start c = c
+
+pub loop-top-init : goal.loop-top-init
+loop-top-init c = let pre = c.requires in (refl, refl, settling_none _ _ _ _ pre.0 pre.1)
+
+pub bounds-stack-top : goal.bounds-stack-top
+bounds-stack-top c = let at-loop = c in omega (arith, (start at-loop).requires.0.long, (start at-loop).requires.0.room, at-loop.loop-top.invariant.2.shallow)
+
+pub returns-then-not-is_prefix : goal.returns-then-not-is_prefix
+returns-then-not-is_prefix c =
+    let at-loop = c in
+    settling_stop _ _ _ _ _ _ _ at-loop.loop-top.invariant.2 c.loop-top-test.true _ c.kind-kind.ensures
+    (sym (not-true _ c.if-not-is_prefix.true) ∙ c.is_prefix.ensures)
+
+pub pack-requires : goal.pack-requires
+pack-requires c =
+    let at-kind = c in
+    let at-loop = at-kind in
+    let e = at-kind.shared_slice_known-in-loop-top-1.given (at-loop.loop-top.top - 1) in
+    (omega (arith, at-kind.kind-kind.ensures, kind_lt _ e.fits), omega arith, omega (arith, at-loop.loop-top.invariant.2.small))
+
+pub put-number-requires : goal.put-number-requires
+put-number-requires c = c.loop-top.invariant.2.numbered
+
+pub loop-top-preserved : goal.loop-top-preserved
+loop-top-preserved c =
+    let at-put = c in
+    let at_test = at-put in
+    let at-loop = at_test in
+    let inv = at-loop.loop-top.invariant in (
+      omega arith,
+      omega arith,
+      settling_more _ _ _ _ _ _ _ inv.2 at_test.loop-top-test.true (start at-loop).requires.0.room _ _ _ _
+          at_test.kind-kind.ensures at-put.pack.ensures (sym (not-false _ at_test.if-not-is_prefix.false) ∙ at_test.is_prefix.ensures) at-put.put-number.ensures,
+    )
+
+pub returns : goal.returns
+returns c = settling_empty _ _ _ _ _ _ _ c.loop-top.invariant.2 c.loop-top-test.false

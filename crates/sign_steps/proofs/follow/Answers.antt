@@ -1,0 +1,96 @@
+-- By the sign, after an operand.
+use native.Mathlib.Omega.{arith}
+use mathlib.Core.Path.{◌≡◌, sym, ap, ◌∙◌, subst}
+use Rattle.placing.specs.State.{state, written}
+use Rattle.signs.specs.declared.Sign.{Sign}
+use Rattle.signs.specs.declared.Sign.TheVariants.{Blank}
+use Rattle.signs.specs.Signed.{Kinded}
+use Rattle.settling.specs.Settled.{top_first}
+use Rattle.turns.specs.Numbers.{Words, follow_words}
+use Rattle.turns.proofs.Making.{stuck-makes}
+use borrow.Author.Rules.{rules}
+use Rattle.sign_steps.proofs.follow.Goals as goal
+
+-- what is to be made of a sign
+abbrev makes : goal.Start → Sign → Words
+makes c x = follow_words x c.args.n (top_first c.args.stack.now c.args.depth) (written (state c.args.out.now c.args.index.now))
+
+told : (c : goal.Start) (x : Sign) → c.args.sign ≡ x → makes c c.args.sign ≡ makes c x
+told c x e = ap (makes c) e
+
+pub stuck-requires : goal.stuck-requires
+stuck-requires c = search rules
+
+pub stuck-requires-in-Letter : goal.stuck-requires-in-Letter
+stuck-requires-in-Letter c = search rules
+
+pub stuck-requires-in-Prefix : goal.stuck-requires-in-Prefix
+stuck-requires-in-Prefix c = search rules
+
+pub join-requires : goal.join-requires
+join-requires c =
+    let at_sign = c in
+    let pre = at_sign.requires in
+    (subst Kinded at_sign.sign-1.given.1 pre.1.0, pre.1.1, omega (arith, pre.0.long, pre.0.room))
+
+pub stuck-requires-in-Open : goal.stuck-requires-in-Open
+stuck-requires-in-Open c = search rules
+
+pub close-requires : goal.close-requires
+close-requires c = search rules
+
+pub stuck-requires-in-Unknown : goal.stuck-requires-in-Unknown
+stuck-requires-in-Unknown c = search rules
+
+pub returns-in-Blank : goal.returns-in-Blank
+unfolding follow_words
+returns-in-Blank c =
+    let at-start = c in
+    record { numbered = at-start.requires.0.numbered; fit = at-start.requires.1.1; same = sym (told at-start Blank c.enum_told-1.given.1) }
+
+pub returns-in-Constant : goal.returns-in-Constant
+unfolding follow_words
+returns-in-Constant c =
+    let at-start = c in
+    stuck-makes _ _ _ at-start.requires.0.numbered c.stuck.ensures (told at-start _ c.enum_told-in-Constant-1.given.1)
+
+pub returns-in-Letter : goal.returns-in-Letter
+unfolding follow_words
+returns-in-Letter c =
+    let at-start = c in
+    stuck-makes _ _ _ at-start.requires.0.numbered c.stuck-in-Letter.ensures (told at-start _ c.enum_told-in-Letter-1.given.1)
+
+pub returns-in-Prefix : goal.returns-in-Prefix
+unfolding follow_words
+returns-in-Prefix c =
+    let at-start = c in
+    stuck-makes _ _ _ at-start.requires.0.numbered c.stuck-in-Prefix.ensures (told at-start _ c.enum_told-in-Prefix-1.given.1)
+
+pub returns-in-Operator : goal.returns-in-Operator
+unfolding follow_words
+returns-in-Operator c =
+    let at_join = c in
+    let at_sign = at_join in
+    let at-start = at_sign in
+    record { numbered = at-start.requires.0.numbered; fit = at_join.join.ensures.1; same = at_join.join.ensures.0 _ ∙ sym (told at-start _ at_sign.sign-1.given.1) }
+
+pub returns-in-Open : goal.returns-in-Open
+unfolding follow_words
+returns-in-Open c =
+    let at-start = c in
+    stuck-makes _ _ _ at-start.requires.0.numbered c.stuck-in-Open.ensures (told at-start _ c.enum_told-in-Open-1.given.1)
+
+pub returns-in-Close : goal.returns-in-Close
+unfolding follow_words
+returns-in-Close c =
+    let at-close = c in
+    let at_sign = at-close in
+    let at-start = at_sign in
+    let m = at-close.close.ensures in
+    record { numbered = m.numbered; fit = m.fit; same = m.same ∙ sym (told at-start _ at_sign.enum_told-in-Close-1.given.1) }
+
+pub returns-in-Unknown : goal.returns-in-Unknown
+unfolding follow_words
+returns-in-Unknown c =
+    let at-start = c in
+    stuck-makes _ _ _ at-start.requires.0.numbered c.stuck-in-Unknown.ensures (told at-start _ c.enum_told-in-Unknown-1.given.1)

@@ -1,0 +1,106 @@
+-- What is answered is the turn of the slot, by the count of its operands and the numbers that they have.
+use native.Mathlib.Omega.{arith}
+use Prim.Native.Nat.{ℕ}
+use mathlib.Core.Path.{◌≡◌, sym, ap, ap₂, ◌∙◌, subst}
+use lib.ListN.{get_or}
+use borrow.Author.Rules.{rules}
+use Rattle.table.specs.Node.{shape, pack}
+use Rattle.slots.specs.Slot.{kind, left, right}
+use Rattle.slot_turns.specs.Turn.{arity, Slotted}
+use Rattle.slot_turns.specs.declared.Turn.TheVariants.{Operand, Word}
+use Rattle.slot_turns.proofs.Turns.{leaf-word, unary-operand, unary-word, left_operand, right_operand, binary-word}
+use Rattle.slot_turns.proofs.next.Goals as goal
+
+abbrev start : goal.After-operands → goal.Start
+start c = c
+
+-- the fields, and the count of operands, that were answered are the slot's
+is-kind : (c : goal.After-operands) → c.kind-kind.result ≡ kind (start c).args.s
+is-kind c = c.kind-kind.ensures
+
+is-left : (c : goal.After-operands) → c.left-left.result ≡ left (start c).args.s
+is-left c = c.left-left.ensures
+
+is_right : (c : goal.After-operands) → c.right-right.result ≡ right (start c).args.s
+is_right c = c.right-right.ensures
+
+counted : (c : goal.After-operands) → arity (shape (kind (start c).args.s)) ≡ c.operands.result
+counted c = sym (c.operands.ensures ∙ ap (λ (k : ℕ). arity (shape k)) (is-kind c))
+
+-- the number of the slot in a field
+numbered : (o : goal.After-operands) {n i j : ℕ} → i ≡ j → n ≡ get_or (start o).args.numbers.now i 0 → n ≡ get_or (start o).args.numbers.now j 0
+numbered o e n = n ∙ ap (λ (i : ℕ). get_or (start o).args.numbers.now i 0) e
+
+pub kind-kind-requires : goal.kind-kind-requires
+kind-kind-requires c = search rules
+
+pub left-left-requires : goal.left-left-requires
+left-left-requires c = search rules
+
+pub right-right-requires : goal.right-right-requires
+right-right-requires c = search rules
+
+pub operands-requires : goal.operands-requires
+operands-requires c = search rules
+
+pub pack-requires : goal.pack-requires
+pack-requires c = (omega arith, omega arith, omega (arith, (start c).requires.letter (counted c ∙ c.in_default.keys1)))
+
+pub number_of-n-requires : goal.number_of-n-requires
+number_of-n-requires c = subst (Slotted _) (sym c.right-right.ensures) ((start c).requires.last (omega (arith, counted c, c.in_default.keys2)))
+
+pub pack-requires-then-n-ne0 : goal.pack-requires-then-n-ne0
+pack-requires-then-n-ne0 c = search rules
+
+pub returns-then-n-ne0 : goal.returns-then-n-ne0
+returns-then-n-ne0 c =
+    let o = c in
+    let n = numbered o (is_right o) c.number_of_lem.ensures.0 in
+    ap Word (c.pack-then-n-ne0.ensures ∙ ap₂ (λ (k b : ℕ). pack k 0 b) (is-kind o) n)
+    ∙ sym (unary-word (start o).args.s (start o).args.numbers.now (counted o ∙ c.in_default.keys2) (λ e. c.if-n-ne0.true (n ∙ e)))
+
+pub number_of-a-requires : goal.number_of-a-requires
+number_of-a-requires c = subst (Slotted _) (sym c.left-left.ensures) ((start c).requires.first (omega (arith, counted c, c.in_default.rest)))
+
+pub returns-then-a-eq0 : goal.returns-then-a-eq0
+returns-then-a-eq0 c =
+    let o = c in
+    let a = numbered o (is-left o) c.number_of-a.ensures.0 in
+    ap Operand (is-left o) ∙ sym (left_operand (start o).args.s (start o).args.numbers.now (omega (arith, counted o, c.in_default.rest)) (sym a ∙ c.if-a-eq0.true))
+
+pub number_of-b-requires : goal.number_of-b-requires
+number_of-b-requires c =
+    let o = c in
+    subst (Slotted _) (sym o.right-right.ensures) ((start o).requires.last (omega (arith, counted o, c.in_default.rest)))
+
+pub returns-then-b-eq0 : goal.returns-then-b-eq0
+returns-then-b-eq0 c =
+    let o = c in
+    let a = numbered o (is-left o) c.number_of-a.ensures.0 in
+    let b = numbered o (is_right o) c.number_of-b.ensures.0 in
+    ap Operand (is_right o)
+    ∙ sym (right_operand (start o).args.s (start o).args.numbers.now (omega (arith, counted o, c.in_default.rest)) (λ e. c.if-a-eq0.false (a ∙ e)) (sym b ∙ c.if-b-eq0.true))
+
+pub pack-requires-in_default : goal.pack-requires-in_default
+pack-requires-in_default c = search rules
+
+pub returns-in-0 : goal.returns-in-0
+returns-in-0 c =
+    let o = c in
+    ap Word (c.pack.ensures ∙ ap₂ (λ (k r : ℕ). pack k 0 r) (is-kind o) (is_right o))
+    ∙ sym (leaf-word (start o).args.s (start o).args.numbers.now (counted o ∙ c.in_default.keys1))
+
+pub returns-else-n-ne0 : goal.returns-else-n-ne0
+returns-else-n-ne0 c =
+    let o = c in
+    let n = numbered o (is_right o) c.number_of_lem.ensures.0 in
+    ap Operand (is_right o) ∙ sym (unary-operand (start o).args.s (start o).args.numbers.now (counted o ∙ c.in_default.keys2) (sym n ∙ c.if-n-ne0.false))
+
+pub returns-else-b-eq0 : goal.returns-else-b-eq0
+returns-else-b-eq0 c =
+    let o = c in
+    let a = numbered o (is-left o) c.number_of-a.ensures.0 in
+    let b = numbered o (is_right o) c.number_of-b.ensures.0 in
+    ap Word (c.pack-in_default.ensures ∙ ap (λ (k : ℕ). pack k c.number_of-a.result c.number_of-b.result) (is-kind o) ∙ ap₂ (pack (kind (start o).args.s)) a b)
+    ∙ sym (binary-word (start o).args.s (start o).args.numbers.now (omega (arith, counted o, c.in_default.rest))
+    (λ e. c.if-a-eq0.false (a ∙ e)) (λ e. c.if-b-eq0.false (b ∙ e)))

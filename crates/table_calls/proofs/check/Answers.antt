@@ -1,0 +1,9 @@
+use mathlib.Core.Path.{ap, ◌∙◌}
+use Rattle.refusals.specs.Refusals.{outcome_number, outcome_place}
+use borrow.Author.Rules.{rules}
+use Rattle.table_calls.proofs.check.Goals as goal
+
+pub returns : goal.returns
+returns c =
+    let e = c.check.ensures in
+    (c.reply.ensures.0 ∙ ap outcome_number e, c.reply.ensures.1 ∙ ap outcome_place e)

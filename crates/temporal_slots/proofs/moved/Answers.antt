@@ -1,0 +1,18 @@
+use borrow.Author.Rules.{rules}
+use native.Mathlib.Omega.{arith}
+use mathlib.Core.Path.{refl, ◌∙◌}
+use lib.ListN.{length-set}
+use Rattle.temporal_slots.proofs.moved.Goals as goal
+
+pub by_class-requires : goal.by_class-requires
+by_class-requires c = (simp length-set (omega arith), omega arith)
+
+pub shape_of-draft : goal.shape_of-draft
+shape_of-draft c =
+    let last = c in
+    last.by_class.auto.0 ∙ simp length-set
+
+pub returns : goal.returns
+returns c =
+    let last = c in
+    rw (last.by_class.ensures, last.pack-s.ensures, last.pack.ensures) refl

@@ -1,0 +1,23 @@
+use Prim.Native.Nat.{◌-◌}
+use mathlib.Core.Path.{ap}
+use lib.Pow.{pow_pos}
+use borrow.Author.Rules.{rules}
+use Rattle.true_parts.proofs.Looks.{shifted, ready_again, none_opened}
+use Rattle.true_parts.proofs.any.Goals as goal
+
+pub overflow_sub-bits : goal.overflow_sub-bits
+overflow_sub-bits c =
+    let start = c in
+    rw (shifted start.args.bits start.requires.1.1) (pow_pos start.args.bits)
+
+pub each-requires : goal.each-requires
+each-requires c =
+    let o = c in
+    let start = o in
+    (ready_again start.requires.0 o.opened.auto.1.1.1.0 o.opened.auto.1.1.1.1.0 o.opened.ensures.1, start.requires.1.1)
+
+pub returns : goal.returns
+returns c =
+    let o = c in
+    let start = o in
+    (none_opened start.args.table.now start.args.bits start.requires.1.0 (ap (λ x. x - 1) (shifted start.args.bits start.requires.1.1)) o.opened.ensures.0 c.if-opened.false, o.opened.ensures.1)

@@ -1,0 +1,86 @@
+use Prim.Native.Nat.{ℕ, ◌-◌, ◌^◌, ◌≤◌, ◌<◌, zero-le}
+use native.Mathlib.Omega.{arith}
+use mathlib.Core.Path.{◌≡◌, refl, sym, ◌∙◌}
+use mathlib.Core.List.{List}
+use lib.ListN.{length}
+use borrow.Author.Rules.{rules}
+use Rattle.drafts.proofs.Drafts.{drafted_within}
+use Rattle.choosing.specs.Filled.{Laid}
+use Rattle.parts.specs.Parts.{folded_part}
+use Rattle.true_parts.proofs.Looks.{shifted, Untrue, ready_again, found, untrue_next, none_found}
+use Rattle.true_parts.proofs.each.Goals as goal
+
+abbrev start : goal.At-loop-choice → goal.Start
+start c = c
+
+-- the part of a choice is drafted
+module _ (p : goal.After-part-root) where
+  abbrev at-loop : goal.At-loop-choice
+  at-loop = p
+
+  abbrev folded : List ℕ
+  folded = p.part-root.last.1.1.1.1.0
+
+  abbrev t : List ℕ
+  t = (start at-loop).args.table.now
+
+  few : length folded ≤ 2 ^ 20
+  few = omega (arith, p.part-root.kept.1.1.1.1.0, at-loop.loop.inv.3, (start at-loop).pre.0.long, (start at-loop).pre.0.fillable.room.narrow)
+
+  within : p.part-root.result < length folded
+  within = drafted_within folded (folded_part t at-loop.loop.choice) p.part-root.result p.part-root.ensures.0
+
+pub overflow_shl-limit : goal.overflow_shl-limit
+overflow_shl-limit c = omega (arith, c.requires.1)
+
+pub loop-choice-init : goal.loop-choice-init
+loop-choice-init c = (shifted _ c.requires.1, zero-le, refl, refl, c.requires.0.fillable.laid, λ d h. absurd (omega arith))
+
+pub part-root-requires : goal.part-root-requires
+part-root-requires c =
+    let l = c in
+    ready_again (start l).requires.0 l.loop-choice.invariant.2 l.loop-choice.invariant.3 l.loop-choice.invariant.4
+
+pub offset_bounds-folded-root : goal.offset_bounds-folded-root
+offset_bounds-folded-root c = omega (arith, within c, few c)
+
+pub bounds-folded-root : goal.bounds-folded-root
+bounds-folded-root c = within c
+
+pub shape_of-draft-then-kind-eq-TRUE : goal.shape_of-draft-then-kind-eq-TRUE
+shape_of-draft-then-kind-eq-TRUE c = let p = c in p.part-root.auto.1.1.1.0 ∙ (at-loop p).loop.invariant.2
+
+pub shape_of-folded-then-kind-eq-TRUE : goal.shape_of-folded-then-kind-eq-TRUE
+shape_of-folded-then-kind-eq-TRUE c = let p = c in p.part-root.auto.1.1.1.1.0 ∙ (at-loop p).loop.invariant.3
+
+pub returns-then-kind-eq-TRUE : goal.returns-then-kind-eq-TRUE
+returns-then-kind-eq-TRUE c =
+    let p = c in
+    (found (t p) (folded p) (at-loop p).loop.choice p.part-root.result p.part-root.ensures.0 (few p) _ (omega (arith, p.loop-choice-test.true, (at-loop p).loop.invariant.0)) (sym c.kind.ensures ∙ c.if-kind-eq-TRUE.true), p.part-root.ensures.1)
+
+pub overflow_add-choice : goal.overflow_add-choice
+overflow_add-choice c = omega (arith, c.loop-choice-test.true)
+
+pub loop-choice-preserved : goal.loop-choice-preserved
+loop-choice-preserved c =
+    let p = c in
+    let inv = (at-loop p).loop.invariant in (
+      inv.0,
+      omega (arith, p.loop-choice-test.true),
+      p.part-root.auto.1.1.1.0 ∙ inv.2,
+      p.part-root.auto.1.1.1.1.0 ∙ inv.3,
+      p.part-root.ensures.1,
+      untrue_next (t p) (folded p) (at-loop p).loop.choice p.part-root.result p.part-root.ensures.0 (few p) (λ e. c.if-kind-eq-TRUE.false (c.kind.ensures ∙ e)) inv.5,
+    )
+
+pub shape_of-draft : goal.shape_of-draft
+shape_of-draft c = c.loop-choice.invariant.2
+
+pub shape_of-folded : goal.shape_of-folded
+shape_of-folded c = c.loop-choice.invariant.3
+
+pub returns : goal.returns
+returns c =
+    let inv = c.loop-choice.invariant in
+    let a = (start c).args in
+    (none_found a.table.now a.bits (λ d h. inv.5 d (omega (arith, inv.0))), inv.4)

@@ -1,0 +1,22 @@
+use Prim.Native.Nat.{◌+◌, ◌*◌}
+use native.Mathlib.Omega.{arith}
+use lib.ListN.{length}
+use borrow.Author.Rules.{rules}
+use Rattle.filling.proofs.Part.{rule_opened}
+use Rattle.true_parts.proofs.Looks.{opened_told}
+use Rattle.true_parts.proofs.opened.Goals as goal
+
+-- the opening form, drafted and then folded
+pub returns : goal.returns
+returns c =
+    let fold = c in
+    let chosen = fold in
+    let start = chosen in
+    let words = chosen.choose_words in
+    let room = start.requires.fillable.room in
+    let last = 5 * length start.args.table.now + 4 in (
+      opened_told start.args.table.now fold.fold.new.1.1.0 start.args.choice last
+          (fold.fold.ensures.slots _ last (omega arith) (rule_opened start.requires.fillable words.auto.1.1.1.0 words.ensures))
+          (omega (arith, room.long, room.narrow)) c.kind.ensures,
+      words.ensures.laid,
+    )

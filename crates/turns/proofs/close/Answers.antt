@@ -1,0 +1,72 @@
+-- Nothing open, a bracket or a prefix on top, or an operator that has its left operand.
+use Prim.Native.Nat.{◌-◌, ◌<◌}
+use native.Mathlib.Omega.{arith}
+use lib.ListN.{get_or}
+use mathlib.Core.Path.{sym, ◌∙◌}
+use Rattle.table.proofs.Fields.{kind_lt, left_lt}
+use Rattle.turns.proofs.Making.{stuck-makes, end_makes, close-empty, close-bracket_only, close-prefix, close_made}
+use borrow.Author.Rules.{rules}
+use Rattle.turns.proofs.close.Goals as goal
+
+-- something is open
+deep : (c : goal.Else-depth-eq0) → 0 < c.args.depth
+deep c = omega (arith, c.if-depth-eq0.false)
+
+pub stuck-requires : goal.stuck-requires
+stuck-requires c = search rules
+
+pub returns-then-depth-eq0 : goal.returns-then-depth-eq0
+returns-then-depth-eq0 c = stuck-makes _ _ _ c.requires.0.numbered c.stuck.ensures (close-empty _ _ _ _ c.if-depth-eq0.true)
+
+pub stuck-requires-then-e-eq0 : goal.stuck-requires-then-e-eq0
+stuck-requires-then-e-eq0 c = search rules
+
+pub returns-then-e-eq0 : goal.returns-then-e-eq0
+returns-then-e-eq0 c =
+    let at-else = c in
+    stuck-makes _ _ _ at-else.requires.0.numbered c.stuck-then-e-eq0.ensures (close-bracket_only _ _ _ _ (deep at-else) c.if-e-eq0.true)
+
+pub kind-kind-requires : goal.kind-kind-requires
+kind-kind-requires c = search rules
+
+pub is_prefix-requires : goal.is_prefix-requires
+is_prefix-requires c = search rules
+
+pub stuck-requires-then-is_prefix : goal.stuck-requires-then-is_prefix
+stuck-requires-then-is_prefix c = search rules
+
+pub returns-then-is_prefix : goal.returns-then-is_prefix
+returns-then-is_prefix c =
+    let at-kind = c in
+    let at-else = at-kind in
+    stuck-makes _ _ _ at-else.requires.0.numbered c.stuck-then-is_prefix.ensures
+    (close-prefix _ _ _ _ (deep at-else) at-kind.if-e-eq0.false _ at-kind.kind-kind.ensures (sym c.if-is_prefix.true ∙ c.is_prefix.ensures))
+
+pub left-requires : goal.left-requires
+left-requires c = search rules
+
+pub pack-requires : goal.pack-requires
+pack-requires c =
+    let at-kind = c in
+    let at-start = at-kind in
+    let e = at-kind.shared_slice_known-2-1.given (at-start.args.depth - 1) in
+    let k : at-kind.kind-kind.result < 16 = omega (arith, at-kind.kind-kind.ensures, kind_lt _ e.fits) in
+    let l : c.left.result < 16384 = omega (arith, c.left.ensures, left_lt (get_or at-start.args.stack.now (at-start.args.depth - 1) 0)) in
+    let n : at-start.args.n < 16384 = omega (arith, at-start.requires.1) in
+    (omega arith, omega arith, omega arith)
+
+pub end-o-requires : goal.end-o-requires
+end-o-requires c =
+    let at-else = c in
+    let pre = at-else.requires in
+    record { numbered = pre.0.numbered; long = pre.0.long; wide = pre.0.wide; room = omega (arith, pre.0.room, at-else.if-depth-eq0.false) }
+
+pub returns : goal.returns
+returns c =
+    let at-end = c in
+    let at-prefix = at-end in
+    let at-kind = at-prefix in
+    let at-else = at-kind in
+    end_makes 0 at-end.end-o.ensures
+    (close_made _ _ _ _ (deep at-else) at-kind.if-e-eq0.false _ at-kind.kind-kind.ensures (sym at-prefix.if-is_prefix.false ∙ at-prefix.is_prefix.ensures) _ _
+    at-end.left.ensures at-end.pack.ensures)

@@ -1,0 +1,48 @@
+use Prim.Native.Nat.{ℕ, ◌≤◌, ◌<◌, ◌-◌}
+use mathlib.Core.Path.{◌≡◌, refl, ap, ◌∙◌}
+use mathlib.Core.List.{List, map}
+use native.Mathlib.Omega.{arith}
+use native.Mathlib.Numerals.{add-one}
+use lib.ListN.{length, get_or, take, length-set}
+use Rattle.logic.specs.Formula.{const}
+use mathlib.Core.Bool.{false}
+use borrow.Author.Rules.{rules}
+use Rattle.table.specs.Table.{formula_of, formulas, rule}
+use Rattle.table.proofs.Formulas.{length-formulas}
+use Rattle.typed.specs.Typed.{typed, counted, earlier}
+use Rattle.typed.proofs.Counting.{next_counted, more_counted}
+use Rattle.typed.proofs.sizes.Goals as goal
+
+pub loop-i-init : goal.loop-i-init
+unfolding formula_of typed
+loop-i-init c = (omega arith, refl, refl, refl)
+
+pub operand-left-requires : goal.operand-left-requires
+operand-left-requires c = omega (arith, c.requires)
+
+pub operand-right-requires : goal.operand-right-requires
+operand-right-requires c = omega (arith, c.requires)
+
+pub loop-i-preserved : goal.loop-i-preserved
+unfolding formula_of
+loop-i-preserved c =
+    let l = c in
+    let s = l in
+    let t : List ℕ = s.args.table.now in
+    let i : ℕ = l.loop-i.i in
+    let below : i < length t = omega arith in
+    let here : c.word_Bytes.result ≡ counted (get_or (formulas t) i (const false)) =
+    c.word_Bytes.ensures ∙ next_counted t l.loop-i.sizes i _ _ below (l.shared_slice_known-1.given i).fits l.loop-i.invariant.2
+    (c.operand-left.ensures ∙ ap (earlier (take i l.loop-i.sizes)) c.left.ensures)
+    (c.operand-right.ensures ∙ ap (earlier (take i l.loop-i.sizes)) c.right.ensures) in (
+      omega arith,
+      length-set l.loop-i.sizes i c.word_Bytes.result ∙ l.loop-i.invariant.1,
+      rw (add-one i) (more_counted (formulas t) l.loop-i.sizes i c.word_Bytes.result (omega (arith, length-formulas t)) (omega (arith, s.requires)) l.loop-i.invariant.2 here),
+      rw (add-one i) here,
+    )
+
+pub returns : goal.returns
+unfolding rule
+returns c =
+    let e : c.loop-i.i ≡ length c.args.table.now = omega arith in
+    rw (← e) c.loop-i.invariant.3

@@ -1,0 +1,41 @@
+-- A word's bytes by its sort: each arm of the match in turn.
+use native.Mathlib.Omega.{arith}
+use borrow.Author.Rules.{rules}
+use Rattle.table.proofs.Fields.{kind_lt}
+use Rattle.typed.proofs.Counting.{bytes_by, sorted}
+use Rattle.typed.proofs.word_bytes.Goals as goal
+
+pub own-n-requires : goal.own-n-requires
+own-n-requires c = rw c.kind-kind.ensures (kind_lt c.args.w (omega arith))
+
+pub sort-requires : goal.sort-requires
+sort-requires c = rw c.kind-kind.ensures (kind_lt c.args.w (omega arith))
+
+pub returns-in-0 : goal.returns-in-0
+returns-in-0 c =
+    let s = c in
+    let o = s in
+    bytes_by _ _ _ _ _ _ _ o.kind-kind.ensures s.sort.ensures o.own-n.ensures.0 (rw c.in_default.keys1 (omega (arith, o.own-n.ensures.1)))
+
+pub returns-in-1 : goal.returns-in-1
+returns-in-1 c =
+    let s = c in
+    let o = s in
+    bytes_by _ _ _ _ _ _ _ o.kind-kind.ensures s.sort.ensures o.own-n.ensures.0
+    (rw (c.in_default.keys2, ← c.right.ensures, ← c.digits.ensures.0) (omega (arith, o.own-n.ensures.1, c.digits.ensures.1)))
+
+pub returns-in-2 : goal.returns-in-2
+returns-in-2 c =
+    let s = c in
+    let o = s in
+    bytes_by _ _ _ _ _ _ _ o.kind-kind.ensures s.sort.ensures o.own-n.ensures.0
+    (rw c.in_default.keys3 (omega (arith, c.least.ensures, s.least-b.ensures)))
+
+pub returns-in_default : goal.returns-in_default
+returns-in_default c =
+    let s = c in
+    let o = s in
+    let rest = c.in_default.rest in
+    bytes_by _ _ _ _ _ _ _ o.kind-kind.ensures s.sort.ensures o.own-n.ensures.0
+    (rw (sorted s.sort.result o.own-n.result _ _ _ rest.0.0.1 rest.0.1 rest.1)
+    (omega (arith, c.least-in_default.ensures, s.least-b.ensures, s.least-a.ensures)))

@@ -1,0 +1,42 @@
+-- The checks of the table with its header, and then the class that the header tells.
+use borrow.Author.Rules.{rules}
+use native.Mathlib.Omega.{arith}
+use Prim.Native.Nat.{ℕ, ◌≤◌}
+use mathlib.Core.Path.{◌≡◌, sym, ◌∙◌}
+use mathlib.Core.Bool.{true}
+use mathlib.Core.List.{List}
+use lib.ListN.{length}
+use Rattle.refusals.specs.declared.Outcome.TheVariants.{Accepted}
+use Rattle.table.specs.Header.{body, headed_checked}
+use Rattle.table.specs.Steps.{is_normal}
+use Rattle.table.proofs.Normal.{normal-header}
+use Rattle.heading.proofs.Order.{some_word}
+use Rattle.automaton_steps.proofs.States.{table-refused, not_delta, watched_accepted}
+use Rattle.watched_checks.proofs.check.Goals as goal
+
+-- the table has passed the checks, and so has a word
+module _ (c : goal.In-Accepted) where
+  abbrev t : List ℕ
+  t = c.args.table.now
+
+  accepted : headed_checked true 16383 t ≡ Accepted
+  accepted = sym c.check.ensures ∙ c.enum_told-1.given.1
+
+  some : 1 ≤ length t
+  some = some_word true 16383 t accepted
+
+-- and its header tells whether it is in Delta-2
+normal : (c : goal.After-is_normal) → c.is_normal.result ≡ is_normal (body (t c))
+normal c = let told = c in c.is_normal.ensures ∙ normal-header 16383 (omega arith) (t told) (accepted told)
+
+pub bounds-table-0 : goal.bounds-table-0
+bounds-table-0 c = some c
+
+pub returns-then-is_normal : goal.returns-then-is_normal
+returns-then-is_normal c = let told = c in sym (watched_accepted (t told) (accepted told) (sym (normal c) ∙ c.if-is_normal.true))
+
+pub returns-in-Refused : goal.returns-in-Refused
+returns-in-Refused c = sym (table-refused _ _ (sym c.check.ensures ∙ c.r-1.given.1))
+
+pub returns-else-is_normal : goal.returns-else-is_normal
+returns-else-is_normal c = let told = c in sym (not_delta (t told) (accepted told) (sym (normal c) ∙ c.if-is_normal.false))
