@@ -40,7 +40,7 @@ release-like c =
 pub next-requires : goal.next-requires
 next-requires c =
     let r = c in
-    (slots r, small r, (right_unary (q r) (word r) c.in_default-1.keys1).below)
+    (slots r, small r, (right_unary (q r) (word r) c.in-7.keys1).below)
 
 pub leaf-requires : goal.leaf-requires
 leaf-requires c =
@@ -79,7 +79,7 @@ pub returns-in-7 : goal.returns-in-7
 returns-in-7 c =
     let x = c in
     let r = x in
-    rw x.next.ensures (next_filled (q r) (word r) x.in_default-1.keys1)
+    rw x.next.ensures (next_filled (q r) (word r) x.in-7.keys1)
 
 pub returns-in-1-to-2 : goal.returns-in-1-to-2
 returns-in-1-to-2 c =

@@ -11,23 +11,23 @@ use Rattle.chosen_forms.proofs.Rewritten.{of_constant, of_letter, of_next, of_bi
 use Rattle.chosen_forms.proofs.recurring.Goals as goal
 
 pub returns-in-7 : goal.returns-in-7
-returns-in-7 c = of_next Recurring c.kind-kind.ensures c.in-5-to-11-1.keys1 c.next.ensures
+returns-in-7 c = of_next Recurring c.kind-kind.ensures c.in-7.keys1 c.next.ensures
 
 pub returns-then-chosen : goal.returns-then-chosen
 unfolding recurring
-returns-then-chosen c = of_binary Recurring c.kind-kind.ensures weak c.in-5-to-11-1.keys2 (λ M N a b h g. rw (g refl, c.if-chosen.true) c.pack.ensures)
+returns-then-chosen c = of_binary Recurring c.kind-kind.ensures weak c.in-9.keys2 (λ M N a b h g. rw (g refl, c.if-chosen.true) c.pack.ensures)
 
 pub returns-else-chosen : goal.returns-else-chosen
 unfolding recurring
-returns-else-chosen c = of_binary Recurring c.kind-kind.ensures weak c.in-5-to-11-1.keys2 (λ M N a b h g. rw (g refl, c.if-chosen.false) c.operator.ensures)
+returns-else-chosen c = of_binary Recurring c.kind-kind.ensures weak c.in-9.keys2 (λ M N a b h g. rw (g refl, c.if-chosen.false) c.operator.ensures)
 
 pub returns-then-chosen-2 : goal.returns-then-chosen-2
 unfolding recurring
-returns-then-chosen-2 c = of_binary Recurring c.kind-kind.ensures release c.in-5-to-11-1.keys3 (λ M N a b h g. rw (g refl, c.if-chosen-2.true) c.pack-then-chosen-2.ensures)
+returns-then-chosen-2 c = of_binary Recurring c.kind-kind.ensures release c.in-10.keys3 (λ M N a b h g. rw (g refl, c.if-chosen-2.true) c.pack-then-chosen-2.ensures)
 
 pub returns-else-chosen-2 : goal.returns-else-chosen-2
 unfolding recurring
-returns-else-chosen-2 c = of_binary Recurring c.kind-kind.ensures release c.in-5-to-11-1.keys3 (λ M N a b h g. rw (g refl, c.if-chosen-2.false) c.operator-else-chosen-2.ensures)
+returns-else-chosen-2 c = of_binary Recurring c.kind-kind.ensures release c.in-10.keys3 (λ M N a b h g. rw (g refl, c.if-chosen-2.false) c.operator-else-chosen-2.ensures)
 
 pub returns-in-1-to-2 : goal.returns-in-1-to-2
 returns-in-1-to-2 c = of_constant Recurring c.kind-kind.ensures (omega arith) (omega arith) c.pack-in-1-to-2.ensures
@@ -36,7 +36,7 @@ pub returns-in-3-to-4 : goal.returns-in-3-to-4
 returns-in-3-to-4 c = of_letter Recurring c.kind-kind.ensures (omega arith) (omega arith) (c.pack-in-3-to-4.ensures ∙ ap (pack _ 0) c.right.ensures)
 
 pub returns-in_default-2 : goal.returns-in_default-2
-returns-in_default-2 c = let rest = c.in-5-to-11-1.rest in absurd (no_other (omega arith) (omega arith) rest.0.0.0.1 rest.0.0.1 rest.0.1 rest.1)
+returns-in_default-2 c = let rest = c.in_default-1.rest in absurd (no_other (omega arith) (omega arith) rest.0.0.0.1 rest.0.0.1 rest.0.1 rest.1)
 
 pub returns-in-5-to-11 : goal.returns-in-5-to-11
 returns-in-5-to-11 c =

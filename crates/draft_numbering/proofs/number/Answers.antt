@@ -102,7 +102,7 @@ next-requires c =
     going_turnable pre.few at-loop.loop-i.invariant.6 pre.formula pre.drafted (longer _ at-loop.loop-i.invariant.0 pre.numbers_long)
 
 pub enum_known-i : goal.enum_known-i
-enum_known-i c = c.in-Word.keys1
+enum_known-i c = c.in-Operand.keys1
 
 pub overflow_cast-stack-in-Operand : goal.overflow_cast-stack-in-Operand
 overflow_cast-stack-in-Operand c = lower_fits (low-at (asking c)) (lower c)

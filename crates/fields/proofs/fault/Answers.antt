@@ -22,7 +22,7 @@ pub returns-then-kind-eq0 : goal.returns-then-kind-eq0
 returns-then-kind-eq0 c = refused (rw (word_by_layout, eq-eqb (kind c.args.w) 0 (sym c.kind-kind.ensures ∙ c.if-kind-eq0.true)))
 
 pub returns-then-kind-ge12 : goal.returns-then-kind-ge12
-returns-then-kind-ge12 c = refused (rw (word_by_layout, ← c.kind-kind.ensures, ne_eqb _ _ c.if-kind-eq0.false, c.else-plain.true, c.if-kind-ge12.true))
+returns-then-kind-ge12 c = refused (rw (word_by_layout, ← c.kind-kind.ensures, ne_eqb _ _ c.if-kind-eq0.false, c.if-plain.true, c.if-kind-ge12.true))
 
 pub of_kind-requires : goal.of_kind-requires
 of_kind-requires c = (omega (arith, c.if-kind-eq0.false), rw c.kind-kind.ensures (kind_lt c.args.w (omega arith)))

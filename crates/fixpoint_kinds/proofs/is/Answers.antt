@@ -8,10 +8,10 @@ use Rattle.fixpoint_kinds.proofs.Picked.{picked, picked-greatest, passed_least, 
 use Rattle.fixpoint_kinds.proofs.is.Goals as goal
 
 pub returns-in-8 : goal.returns-in-8
-returns-in-8 c = rw c.enum_told-1.given.1 (picked _ c.kind-kind.ensures Least until c.in_default.keys1 (λ a b. refl))
+returns-in-8 c = rw c.enum_told-1.given.1 (picked _ c.kind-kind.ensures Least until c.in-8.keys1 (λ a b. refl))
 
 pub returns-in-11 : goal.returns-in-11
-returns-in-11 c = rw c.enum_told-1.given.1 (picked _ c.kind-kind.ensures Least strong c.in_default.keys2 (λ a b. refl))
+returns-in-11 c = rw c.enum_told-1.given.1 (picked _ c.kind-kind.ensures Least strong c.in-11.keys2 (λ a b. refl))
 
 pub returns-in_default : goal.returns-in_default
 returns-in_default c = rw c.enum_told-1.given.1 (passed_least _ c.kind-kind.ensures (kind_lt _ c.ranges.w.fits) c.in_default.rest.0.1 c.in_default.rest.1)

@@ -39,7 +39,7 @@ returns-in_default-3 c = in_range (Laid Binary) 15 0 c.args.kind (omega arith) (
 
 pub returns-in-7 : goal.returns-in-7
 unfolding shape
-returns-in-7 c = rw c.in_default-1.keys1
+returns-in-7 c = rw c.in-7.keys1
 
 pub returns-in-7-2 : goal.returns-in-7-2
 unfolding shape

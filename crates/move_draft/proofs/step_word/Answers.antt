@@ -54,7 +54,7 @@ moving-h-requires c = omega (arith, c.shared_slice_known-5-1.given c.args.j)
 pub next-requires : goal.next-requires
 next-requires c =
     let r = c in
-    (slots r, small r, r.moving-h.ensures.1, (right_unary (q r) (word r) c.in_default-1.keys1).below)
+    (slots r, small r, r.moving-h.ensures.1, (right_unary (q r) (word r) c.in-7.keys1).below)
 
 pub constant-requires : goal.constant-requires
 constant-requires c =
@@ -93,7 +93,7 @@ pub returns-in-7 : goal.returns-in-7
 returns-in-7 c =
     let x = c in
     let r = x in
-    rw x.next.ensures (next_filled (q r) (word r) (told r) x.in_default-1.keys1)
+    rw x.next.ensures (next_filled (q r) (word r) (told r) x.in-7.keys1)
 
 pub returns-in-1-to-2 : goal.returns-in-1-to-2
 returns-in-1-to-2 c =

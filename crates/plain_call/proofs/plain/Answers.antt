@@ -3,5 +3,5 @@ use Rattle.plain_call.proofs.plain.Goals as goal
 
 pub returns : goal.returns
 returns c =
-    let e = c.Plain-Form.ensures in
+    let e = c.plain_form.ensures in
     (rw e.0 at c.table_reply.ensures, e.1)

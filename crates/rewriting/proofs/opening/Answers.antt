@@ -7,13 +7,13 @@ use Rattle.rewriting.proofs.Opened.{others, no_other, opens-constant, opens-lett
 use Rattle.rewriting.proofs.opening.Goals as goal
 
 pub returns-in-7 : goal.returns-in-7
-returns-in-7 c = opens_next c.kind-kind.ensures c.in-5-to-11-1.keys1 c.next.ensures
+returns-in-7 c = opens_next c.kind-kind.ensures c.in-7.keys1 c.next.ensures
 
 pub returns-in-9 : goal.returns-in-9
-returns-in-9 c = opens_weak c.kind-kind.ensures c.in-5-to-11-1.keys2 (c.pack.ensures ∙ rw (c.place.ensures, c.left.ensures))
+returns-in-9 c = opens_weak c.kind-kind.ensures c.in-9.keys2 (c.pack.ensures ∙ rw (c.place.ensures, c.left.ensures))
 
 pub returns-in-10 : goal.returns-in-10
-returns-in-10 c = opens-release c.kind-kind.ensures c.in-5-to-11-1.keys3 (c.pack-in-10.ensures ∙ rw (c.place-in-10.ensures, c.right.ensures))
+returns-in-10 c = opens-release c.kind-kind.ensures c.in-10.keys3 (c.pack-in-10.ensures ∙ rw (c.place-in-10.ensures, c.right.ensures))
 
 pub returns-in-1-to-2 : goal.returns-in-1-to-2
 returns-in-1-to-2 c = opens-constant c.kind-kind.ensures (omega arith) (omega arith) c.pack-in-1-to-2.ensures
@@ -22,7 +22,7 @@ pub returns-in-3-to-4 : goal.returns-in-3-to-4
 returns-in-3-to-4 c = opens-letter c.kind-kind.ensures (omega arith) (omega arith) (c.pack-in-3-to-4.ensures ∙ ap (pack _ 0) c.right-in-3-to-4.ensures)
 
 pub returns-in_default-2 : goal.returns-in_default-2
-returns-in_default-2 c = let rest = c.in-5-to-11-1.rest in absurd (no_other (omega arith) (omega arith) rest.0.0.0.1 rest.0.0.1 rest.0.1 rest.1)
+returns-in_default-2 c = let rest = c.in_default-1.rest in absurd (no_other (omega arith) (omega arith) rest.0.0.0.1 rest.0.0.1 rest.0.1 rest.1)
 
 pub returns-in-5-to-11 : goal.returns-in-5-to-11
 returns-in-5-to-11 c = opens_kept c.kind-kind.ensures (others (⊎_elim (λ x. inl x.keys4) (λ x. inr (x.3.left, x.4.taken)) c.in-5-to-11-1.branch)) c.operator.ensures

@@ -46,7 +46,7 @@ fill_row-requires c =
     )
 
 pub overflow_add-j : goal.overflow_add-j
-overflow_add-j c = omega (arith, c.loop-j-test.true, c.well-formed)
+overflow_add-j c = omega (arith, c.loop-j-test.true, c.well_formed)
 
 pub loop-j-smaller : goal.loop-j-smaller
 loop-j-smaller c = omega (arith, c.loop-j-test.true)

@@ -44,10 +44,10 @@ pub operands-requires : goal.operands-requires
 operands-requires c = search rules
 
 pub pack-requires : goal.pack-requires
-pack-requires c = (omega arith, omega arith, omega (arith, (start c).requires.letter (counted c ∙ c.in_default.keys1)))
+pack-requires c = (omega arith, omega arith, omega (arith, (start c).requires.letter (counted c ∙ c.in-0.keys1)))
 
 pub number_of-n-requires : goal.number_of-n-requires
-number_of-n-requires c = subst (Slotted _) (sym c.right-right.ensures) ((start c).requires.last (omega (arith, counted c, c.in_default.keys2)))
+number_of-n-requires c = subst (Slotted _) (sym c.right-right.ensures) ((start c).requires.last (omega (arith, counted c, c.in-1.keys2)))
 
 pub pack-requires-then-n-ne0 : goal.pack-requires-then-n-ne0
 pack-requires-then-n-ne0 c = search rules
@@ -55,9 +55,9 @@ pack-requires-then-n-ne0 c = search rules
 pub returns-then-n-ne0 : goal.returns-then-n-ne0
 returns-then-n-ne0 c =
     let o = c in
-    let n = numbered o (is_right o) c.number_of_lem.ensures.0 in
+    let n = numbered o (is_right o) c.number_of-n.ensures.0 in
     ap Word (c.pack-then-n-ne0.ensures ∙ ap₂ (λ (k b : ℕ). pack k 0 b) (is-kind o) n)
-    ∙ sym (unary-word (start o).args.s (start o).args.numbers.now (counted o ∙ c.in_default.keys2) (λ e. c.if-n-ne0.true (n ∙ e)))
+    ∙ sym (unary-word (start o).args.s (start o).args.numbers.now (counted o ∙ c.in-1.keys2) (λ e. c.if-n-ne0.true (n ∙ e)))
 
 pub number_of-a-requires : goal.number_of-a-requires
 number_of-a-requires c = subst (Slotted _) (sym c.left-left.ensures) ((start c).requires.first (omega (arith, counted c, c.in_default.rest)))
@@ -88,13 +88,13 @@ pub returns-in-0 : goal.returns-in-0
 returns-in-0 c =
     let o = c in
     ap Word (c.pack.ensures ∙ ap₂ (λ (k r : ℕ). pack k 0 r) (is-kind o) (is_right o))
-    ∙ sym (leaf-word (start o).args.s (start o).args.numbers.now (counted o ∙ c.in_default.keys1))
+    ∙ sym (leaf-word (start o).args.s (start o).args.numbers.now (counted o ∙ c.in-0.keys1))
 
 pub returns-else-n-ne0 : goal.returns-else-n-ne0
 returns-else-n-ne0 c =
     let o = c in
-    let n = numbered o (is_right o) c.number_of_lem.ensures.0 in
-    ap Operand (is_right o) ∙ sym (unary-operand (start o).args.s (start o).args.numbers.now (counted o ∙ c.in_default.keys2) (sym n ∙ c.if-n-ne0.false))
+    let n = numbered o (is_right o) c.number_of-n.ensures.0 in
+    ap Operand (is_right o) ∙ sym (unary-operand (start o).args.s (start o).args.numbers.now (counted o ∙ c.in-1.keys2) (sym n ∙ c.if-n-ne0.false))
 
 pub returns-else-b-eq0 : goal.returns-else-b-eq0
 returns-else-b-eq0 c =

@@ -20,7 +20,7 @@ returns-in_default-3 c =
     rw (arity-by_range start.args.kind start.requires.1, ne_eqb _ _ c.in_default-1.rest.1, le-ltb _ _ c.if-kind-lt5.false, le-ltb _ _ c.if-kind-lt12.false, le-ltb _ _ c.if-kind-lt15.false)
 
 pub returns-in-7 : goal.returns-in-7
-returns-in-7 c = rw (arity-by_range c.args.kind c.requires.1, eq-eqb _ _ c.in_default-1.keys1)
+returns-in-7 c = rw (arity-by_range c.args.kind c.requires.1, eq-eqb _ _ c.in-7.keys1)
 
 pub returns-in-7-2 : goal.returns-in-7-2
 returns-in-7-2 c =

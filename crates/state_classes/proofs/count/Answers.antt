@@ -9,7 +9,7 @@ use Rattle.state_classes.proofs.Smallest.{level_small, one_digit, read_none, rea
 use Rattle.state_classes.proofs.count.Goals as goal
 
 pub returns-then-not-is_proper : goal.returns-then-not-is_proper
-returns-then-not-is_proper c = read_none c.args.kind c.args.byte (sym c.is_proper_lem.ensures ∙ not-true _ c.if-not-is_proper.true)
+returns-then-not-is_proper c = read_none c.args.kind c.args.byte (sym c.is_proper.ensures ∙ not-true _ c.if-not-is_proper.true)
 
 pub digit-requires : goal.digit-requires
 digit-requires c = omega (arith, level_small c.args.byte)
@@ -30,4 +30,4 @@ pub returns : goal.returns
 returns c =
     let told = c in
     let a = told.args in
-    read_count a.byte c.level-sigma.ensures c.digit.ensures a.kind (sym told.is_proper_lem.ensures ∙ not-false _ told.if-not-is_proper.false) c.digit-2.ensures
+    read_count a.byte c.level-sigma.ensures c.digit.ensures a.kind (sym told.is_proper.ensures ∙ not-false _ told.if-not-is_proper.false) c.digit-2.ensures

@@ -15,21 +15,21 @@ pub returns-in-0 : goal.returns-in-0
 returns-in-0 c =
     let s = c in
     let o = s in
-    bytes_by _ _ _ _ _ _ _ o.kind-kind.ensures s.sort.ensures o.own-n.ensures.0 (rw c.in_default.keys1 (omega (arith, o.own-n.ensures.1)))
+    bytes_by _ _ _ _ _ _ _ o.kind-kind.ensures s.sort.ensures o.own-n.ensures.0 (rw c.in-0.keys1 (omega (arith, o.own-n.ensures.1)))
 
 pub returns-in-1 : goal.returns-in-1
 returns-in-1 c =
     let s = c in
     let o = s in
     bytes_by _ _ _ _ _ _ _ o.kind-kind.ensures s.sort.ensures o.own-n.ensures.0
-    (rw (c.in_default.keys2, ← c.right.ensures, ← c.digits.ensures.0) (omega (arith, o.own-n.ensures.1, c.digits.ensures.1)))
+    (rw (c.in-1.keys2, ← c.right.ensures, ← c.digits.ensures.0) (omega (arith, o.own-n.ensures.1, c.digits.ensures.1)))
 
 pub returns-in-2 : goal.returns-in-2
 returns-in-2 c =
     let s = c in
     let o = s in
     bytes_by _ _ _ _ _ _ _ o.kind-kind.ensures s.sort.ensures o.own-n.ensures.0
-    (rw c.in_default.keys3 (omega (arith, c.least.ensures, s.least-b.ensures)))
+    (rw c.in-2.keys3 (omega (arith, c.least.ensures, s.least-b.ensures)))
 
 pub returns-in_default : goal.returns-in_default
 returns-in_default c =

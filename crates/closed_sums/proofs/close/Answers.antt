@@ -1,0 +1,17 @@
+use mathlib.Core.Path.{subst}
+use borrow.Author.Rules.{rules}
+use Rattle.sums.specs.Summed.{Summed}
+use Rattle.closed_sums.proofs.Closing.{close-nothing}
+use Rattle.closed_sums.proofs.close.Goals as goal
+
+pub returns-in-Nothing : goal.returns-in-Nothing
+returns-in-Nothing c =
+    λ s₀ χ p.
+    let put = c in
+    close-nothing χ (subst (Summed s₀ _ χ) put.enum_told-1.given.1 p) put.pack.ensures put.put.ensures
+
+pub returns-in-Full : goal.returns-in-Full
+returns-in-Full c s₀ χ p = (subst (Summed s₀ _ χ) c.enum_told-in-Full-1.given.1 p).1
+
+pub returns-in-At : goal.returns-in-At
+returns-in-At c s₀ χ p = (subst (Summed s₀ _ χ) c.sum-1.given.1 p).2

@@ -1,0 +1,7 @@
+use borrow.Author.Rules.{rules}
+use Rattle.form_calls.proofs.normal.Goals as goal
+
+pub returns : goal.returns
+returns c =
+    let e = c.form.ensures in
+    (rw e.0 at c.form_reply.ensures, e.1)

@@ -1,0 +1,49 @@
+use borrow.Author.Rules.{rules}
+use Rattle.logic.specs.Formula.{const}
+use Rattle.transforms.specs.NormalForm.{choices}
+use mathlib.Core.Bool.{false}
+use Rattle.part_sums.specs.Joining.{joined}
+use Rattle.form_table.proofs.Whole.{form-true, placed-true, placed_sum, summed-numbered, ready_first, joinable_first}
+use Rattle.form_table.proofs.form.Goals as goal
+
+-- where the function started, from the words laid out and from the look
+abbrev start : goal.After-fill_words → goal.Start
+start c = c
+
+abbrev laid : goal.After-any → goal.After-fill_words
+laid c = c
+
+abbrev looked : goal.After-all-sum → goal.After-any
+looked c = c
+
+pub any-requires : goal.any-requires
+any-requires c =
+    let f = c in
+    (ready_first (start f).requires f.fill_words.auto.1.0 f.fill_words.ensures, ((start f).requires.bits_are, (start f).requires.few))
+
+pub returns-then-any : goal.returns-then-any
+returns-then-any c =
+    let put = c in
+    let then = put in
+    let any = then in
+    let at-start = start (laid any) in
+    placed-true at-start.args.table.now (form-true at-start.args.table.now at-start.pre.bits_are (any.any.ensures.0.some then.if-any.true)) put.pack.ensures put.put.ensures
+
+pub all-sum-requires : goal.all-sum-requires
+all-sum-requires c =
+    let any = c in
+    let f = laid any in
+    let else = c in
+    (joinable_first (start f).pre f.fill-words.kept.1.0 f.fill-words.ensures any.any.auto.1.1.1.0 any.any.auto.1.1.1.1.0 any.any.ensures.1, (any.any.ensures.0.none else.if-any.false, (start f).pre.few))
+
+pub close-requires : goal.close-requires
+close-requires c =
+    let all = c in
+    summed-numbered _ _ _ all.all-sum.result (start (laid (looked all))).requires.numbered all.all-sum.ensures
+
+pub returns : goal.returns
+returns c =
+    let close = c in
+    let all = close in
+    let at-start = start (laid (looked all)) in
+    placed_sum at-start.args.table.now at-start.pre.bits_are (close.close.ensures _ (joined at-start.args.table.now (choices at-start.args.bits) (const false)) all.all-sum.ensures)

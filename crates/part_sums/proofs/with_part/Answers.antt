@@ -1,0 +1,88 @@
+use Prim.Native.Nat.{ℕ, ◌^◌, ◌≤◌, ◌<◌}
+use native.Mathlib.Omega.{arith}
+use mathlib.Core.Path.{◌≡◌, sym, ◌∙◌}
+use mathlib.Core.List.{List}
+use lib.ListN.{length}
+use lib.Count.{ones}
+use borrow.Author.Rules.{rules}
+use Rattle.drafts.proofs.Drafts.{drafted_within}
+use Rattle.parts.specs.Parts.{folded_part}
+use Rattle.part_sums.proofs.Parts.{part_other, part_joined, part_false, part_full, root_false, root_standing}
+use Rattle.part_sums.proofs.with_part.Goals as goal
+
+-- the part of the choice is drafted, which has as many chosen words as are asked for
+module _ (p : goal.After-part-root) where
+  abbrev start : goal.Start
+  start = p
+
+  abbrev t : List ℕ
+  t = start.args.table.now
+
+  abbrev choice : ℕ
+  choice = start.args.choice
+
+  abbrev folded : List ℕ
+  folded = p.part-root.last.1.1.1.1.0
+
+  counted : ones choice ≡ start.args.ones
+  counted = p.if-choice-ones.left
+
+  as_long : length folded ≡ length start.args.draft.now
+  as_long = p.part-root.kept.1.1.1.1.0 ∙ start.pre.0.ready.long
+
+  few : length folded ≤ 2 ^ 20
+  few = omega (arith, as_long, start.pre.0.ready.fillable.room.narrow)
+
+  within : p.part-root.result < length folded
+  within = drafted_within folded (folded_part t choice) p.part-root.result p.part-root.ensures.0
+
+pub returns-then-choice-ones : goal.returns-then-choice-ones
+returns-then-choice-ones c =
+    let pre = c.requires in
+    (part_other _ _ _ pre.0.numbered pre.1.1 c.if-choice-ones.true, pre.0.ready.fillable.laid)
+
+pub returns-in-Full : goal.returns-in-Full
+returns-in-Full c =
+    let pre = c.requires in
+    (part_full _ _ _ c.if-choice-ones.false pre.0.numbered pre.1.0 c.enum_told-1.given.1, pre.0.ready.fillable.laid)
+
+pub offset_bounds-folded-root : goal.offset_bounds-folded-root
+offset_bounds-folded-root c = omega (arith, within c, few c)
+
+pub bounds-folded-root : goal.bounds-folded-root
+bounds-folded-root c = within c
+
+pub returns-then-kind-eq-FALSE : goal.returns-then-kind-eq-FALSE
+returns-then-kind-eq-FALSE c =
+    let p = c in
+    let pre = (start p).requires in (
+      part_false (t p) (choice p) _ (counted p) pre.0.numbered pre.1.1
+          (root_false (t p) (folded p) (choice p) p.part-root.result p.part-root.ensures.0 (few p) (sym c.kind.ensures ∙ c.if-kind-eq-FALSE.true)),
+      p.part-root.ensures.1,
+    )
+
+pub join-requires : goal.join-requires
+join-requires c =
+    let p = c in
+    let pre = (start p).requires in (
+      record {
+        formula = folded_part (t p) (choice p);
+        drafted = p.part-root.ensures.0;
+        few = few p;
+        numbers_long = omega (arith, as_long p, pre.0.numbers_long);
+        stack_long = omega (arith, as_long p, pre.0.stack_long);
+        numbered = pre.0.numbered;
+      },
+      pre.1.1,
+    )
+
+pub returns : goal.returns
+returns c =
+    let j = c in
+    let p = j in
+    let other = j in (
+      part_joined (t p) (choice p) _ (counted p)
+          (j.join.ensures (folded_part (t p) (choice p)) p.part-root.ensures.0
+          (root_standing (t p) (folded p) (choice p) p.part-root.result p.part-root.ensures.0 (few p) (start p).requires.1.0 (λ e. other.if-kind-eq-FALSE.false (other.kind.ensures ∙ e)))),
+      p.part-root.ensures.1,
+    )

@@ -1,0 +1,25 @@
+use borrow.Author.Rules.{rules}
+use Rattle.rewritten_form.proofs.Ends.{past_refused, all_passed, given_made, given_refused}
+use Rattle.rewritten_form.proofs.rewrite.Goals as goal
+
+pub returns-then-past-gt0 : goal.returns-then-past-gt0
+returns-then-past-gt0 c = let start = c in past_refused start.requires start.args.res.now c.past-past.ensures c.if-past-gt0.true
+
+pub answer-requires : goal.answer-requires
+answer-requires c =
+    let start = c in
+    all_passed start.requires start.args.res.now c.past-past.ensures c.if-past-gt0.false
+
+pub returns-in-Made : goal.returns-in-Made
+returns-in-Made c =
+    let answered = c in
+    let tested = answered in
+    let start = tested in
+    given_made start.requires start.args.res.now tested.past-past.ensures tested.if-past-gt0.false c.n-1.given.1 answered.answer.ensures
+
+pub returns-in-Refused : goal.returns-in-Refused
+returns-in-Refused c =
+    let answered = c in
+    let tested = answered in
+    let start = tested in
+    given_refused start.requires start.args.res.now tested.past-past.ensures tested.if-past-gt0.false c.r-1.given.1 answered.answer.ensures
