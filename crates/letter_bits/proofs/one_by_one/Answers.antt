@@ -19,9 +19,6 @@ loop-i-init c = (omega arith, pack_none _ _ _ (omega arith))
 pub overflow_mul-word : goal.overflow_mul-word
 overflow_mul-word c = omega (arith, small c)
 
-pub overflow_add-word : goal.overflow_add-word
-overflow_add-word c = omega (arith, small c)
-
 pub loop-i-preserved : goal.loop-i-preserved
 loop-i-preserved c =
     let l = c.loop-i in

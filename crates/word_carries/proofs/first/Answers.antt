@@ -1,9 +1,0 @@
--- The goal is reached among the lowest bits of the keep, or the keep lets the carry through.
-use Rattle.std.proofs.Common.{arith, rules}
-use Rattle.word_carries.proofs.Carries.{first_law}
-use Rattle.word_carries.proofs.first.Goals as goal
-
-pub returns : goal.returns
-returns c G P i eg ep =
-    let add = c in
-    first_law G P i _ _ _ _ _ add.args.carry (omega arith) add.wrapping_add_u64.ensures c.ones.ensures eg ep
