@@ -12,24 +12,23 @@ use Rattle.table.proofs.AfterStep.{table-refused, table-accepted}
 use Rattle.heading.proofs.Order.{whole_body, some_word}
 use Rattle.after_checks.proofs.check.Goals as goal
 
-module _ (c : goal.In-Accepted) where
-  abbrev t : List ℕ
-  t = c.args.table.now
-
-  told : headed_checked true 16383 t ≡ Accepted
-  told = sym c.check.ensures ∙ c.enum_told-1.given.1
-
-  some : 1 ≤ length t
-  some = some_word true 16383 t told
-
 pub slice_bounds-check_sample-count : goal.slice_bounds-check_sample-count
-slice_bounds-check_sample-count c = omega (arith, some c)
+slice_bounds-check_sample-count c =
+    let t : List ℕ = c.args.table.now in
+    let some : 1 ≤ length t = some_word true 16383 t in
+    omega (arith, some)
 
 pub slice_bounds-check_sample-start : goal.slice_bounds-check_sample-start
-slice_bounds-check_sample-start c = omega (arith, some c)
+slice_bounds-check_sample-start c =
+    let t : List ℕ = c.args.table.now in
+    let some : 1 ≤ length t = some_word true 16383 t in
+    omega (arith, some)
 
 pub returns-in-Refused : goal.returns-in-Refused
 returns-in-Refused c = sym (table-refused 0 _ _ _ (sym c.check.ensures ∙ c.r-1.given.1))
 
 pub returns-in-Accepted : goal.returns-in-Accepted
-returns-in-Accepted c = rw (whole_body (t c)) at c.check_sample.ensures ∙ sym (table-accepted 0 _ _ (told c))
+returns-in-Accepted c =
+    let t : List ℕ = c.args.table.now in
+    let told : headed_checked true 16383 t ≡ Accepted = sym c.check.ensures ∙ c.enum_told-1.given.1 in
+    rw (whole_body (t)) at c.check_sample.ensures ∙ sym (table-accepted 0 _ _ (told))

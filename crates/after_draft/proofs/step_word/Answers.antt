@@ -11,104 +11,116 @@ use Rattle.after_draft.specs.Filling.{Next}
 use Rattle.after_draft.proofs.Forms.{Fixpoint, inside, numbered, plain_at, constant-filled, letter_range, letter-filled, right_unary, next_filled, junction-operands, junction-filled, until_at, release_at, fixpoint-operands, fixpoint-filled}
 use Rattle.after_draft.proofs.step_word.Goals as goal
 
--- what the call began with, and the word that was read
-module _ (c : goal.After-read-w) where
-  abbrev start : goal.Start
-  start = c
-
-  q : Next start.args.sample start.args.table.now start.args.draft.now start.args.j
-  q = start.pre
-
-  word : WordAt start.args.table.now start.args.j c.read-w.result.kind c.read-w.result.left c.read-w.result.right
-  word = c.read-w.ensures
-
-  slots : 3 * start.args.j + 2 < length start.args.draft.now
-  slots = inside q
-
-  small : start.args.j < 16384
-  small = numbered q
-
--- the arms of U and W, and of R and M, which is the last
-until_like : (c : goal.In-8-to-9) → Fixpoint conj disj (shape c.read-w.result.kind)
-until_like c = until_at _ (omega (arith, c.in_default-1.rest)) (omega arith)
-
-release-like : (c : goal.In_default) → Fixpoint disj conj (shape c.read-w.result.kind)
-release-like c =
-    let r = c in
-    release_at _ (⊎_elim (λ w. absurd (omega (arith, (word r).positive))) (λ w. w.4.left) c.in_default.branch) (plain_at (q r) (word r))
-
 pub next-requires : goal.next-requires
 next-requires c =
-    let r = c in
-    (slots r, small r, (right_unary (q r) (word r) c.in-7.keys1).below)
+    let q : Next c.args.sample c.args.table.now c.args.draft.now c.args.j = c.requires in
+    let word : WordAt c.args.table.now c.args.j c.read-w.result.kind c.read-w.result.left c.read-w.result.right = c.read-w.ensures in
+    let slots : 3 * c.args.j + 2 < length c.args.draft.now = inside q in
+    let small : c.args.j < 16384 = numbered q in
+    (slots, small, (right_unary (q) (word) c.in-7.keys1).below)
 
 pub leaf-requires : goal.leaf-requires
 leaf-requires c =
-    let r = c in
-    (slots r, small r, omega (arith, (word r).below), omega arith, omega (arith, (word r).below))
+    let q : Next c.args.sample c.args.table.now c.args.draft.now c.args.j = c.requires in
+    let word : WordAt c.args.table.now c.args.j c.read-w.result.kind c.read-w.result.left c.read-w.result.right = c.read-w.ensures in
+    let slots : 3 * c.args.j + 2 < length c.args.draft.now = inside q in
+    let small : c.args.j < 16384 = numbered q in
+    (slots, small, omega (arith, (word).below), omega arith, omega (arith, (word).below))
 
 pub reading-requires : goal.reading-requires
 reading-requires c =
-    let r = c in
-    letter_range (q r) (word r) (omega arith) (omega arith)
+    let q : Next c.args.sample c.args.table.now c.args.draft.now c.args.j = c.requires in
+    let word : WordAt c.args.table.now c.args.j c.read-w.result.kind c.read-w.result.left c.read-w.result.right = c.read-w.ensures in
+    letter_range (q) (word) (omega arith) (omega arith)
 
 pub leaf-requires-in-3-to-4 : goal.leaf-requires-in-3-to-4
 leaf-requires-in-3-to-4 c =
-    let r = c in
-    (slots r, small r, omega (arith, (word r).below), omega (arith, (word r).right_fits), rw c.reading.ensures (constant_lt (start r).args.sample r.read-w.result.kind r.read-w.result.right))
+    let q : Next c.args.sample c.args.table.now c.args.draft.now c.args.j = c.requires in
+    let word : WordAt c.args.table.now c.args.j c.read-w.result.kind c.read-w.result.left c.read-w.result.right = c.read-w.ensures in
+    let slots : 3 * c.args.j + 2 < length c.args.draft.now = inside q in
+    let small : c.args.j < 16384 = numbered q in
+    (slots, small, omega (arith, (word).below), omega (arith, (word).right_fits), rw c.reading.ensures (constant_lt c.args.sample c.read-w.result.kind c.read-w.result.right))
 
 pub junction-requires : goal.junction-requires
 junction-requires c =
-    let r = c in
-    let o = junction-operands (q r) (word r) (omega arith) (omega arith) in
-    (slots r, small r, omega (arith, (word r).below), o.0.below, o.1.below)
+    let q : Next c.args.sample c.args.table.now c.args.draft.now c.args.j = c.requires in
+    let word : WordAt c.args.table.now c.args.j c.read-w.result.kind c.read-w.result.left c.read-w.result.right = c.read-w.ensures in
+    let slots : 3 * c.args.j + 2 < length c.args.draft.now = inside q in
+    let small : c.args.j < 16384 = numbered q in
+    let o = junction-operands (q) (word) (omega arith) (omega arith) in
+    (slots, small, omega (arith, (word).below), o.0.below, o.1.below)
 
 pub fixpoint-requires : goal.fixpoint-requires
 fixpoint-requires c =
-    let r = c in
-    let o = fixpoint-operands (q r) (word r) (until_like c) in
-    (slots r, small r, omega (arith, (word r).below), omega arith, omega arith, o.0.below, o.1.below)
+    let q : Next c.args.sample c.args.table.now c.args.draft.now c.args.j = c.requires in
+    let word : WordAt c.args.table.now c.args.j c.read-w.result.kind c.read-w.result.left c.read-w.result.right = c.read-w.ensures in
+    let slots : 3 * c.args.j + 2 < length c.args.draft.now = inside q in
+    let small : c.args.j < 16384 = numbered q in
+    let until_like : Fixpoint conj disj (shape c.read-w.result.kind) = until_at _ (omega (arith, c.in_default-1.rest)) (omega arith) in
+    let o = fixpoint-operands (q) (word) (until_like) in
+    (slots, small, omega (arith, (word).below), omega arith, omega arith, o.0.below, o.1.below)
 
 pub fixpoint-requires-in_default : goal.fixpoint-requires-in_default
 fixpoint-requires-in_default c =
+    let q : Next c.args.sample c.args.table.now c.args.draft.now c.args.j = c.requires in
+    let word : WordAt c.args.table.now c.args.j c.read-w.result.kind c.read-w.result.left c.read-w.result.right = c.read-w.ensures in
+    let slots : 3 * c.args.j + 2 < length c.args.draft.now = inside q in
+    let small : c.args.j < 16384 = numbered q in
+    let release-like : Fixpoint disj conj (shape c.read-w.result.kind) = let r = c in
+    release_at _ (⊎_elim (λ w. absurd (omega (arith, (word).positive))) (λ w. w.4.left) c.in_default.branch) (plain_at (q) (word)) in
     let r = c in
-    let o = fixpoint-operands (q r) (word r) (release-like c) in
-    (slots r, small r, omega (arith, (word r).below), omega arith, omega arith, o.0.below, o.1.below)
+    let o = fixpoint-operands (q) (word) (release-like) in
+    (slots, small, omega (arith, (word).below), omega arith, omega arith, o.0.below, o.1.below)
 
 pub returns-in-7 : goal.returns-in-7
 returns-in-7 c =
+    let q : Next c.args.sample c.args.table.now c.args.draft.now c.args.j = c.requires in
+    let word : WordAt c.args.table.now c.args.j c.read-w.result.kind c.read-w.result.left c.read-w.result.right = c.read-w.ensures in
     let x = c in
     let r = x in
-    rw x.next.ensures (next_filled (q r) (word r) x.in-7.keys1)
+    rw x.next.ensures (next_filled (q) (word) x.in-7.keys1)
 
 pub returns-in-1-to-2 : goal.returns-in-1-to-2
 returns-in-1-to-2 c =
+    let q : Next c.args.sample c.args.table.now c.args.draft.now c.args.j = c.requires in
+    let word : WordAt c.args.table.now c.args.j c.read-w.result.kind c.read-w.result.left c.read-w.result.right = c.read-w.ensures in
     let x = c in
     let r = x in
-    rw x.leaf.ensures (constant-filled (q r) (word r) (omega arith) (omega arith))
+    rw x.leaf.ensures (constant-filled (q) (word) (omega arith) (omega arith))
 
 pub returns-in-3-to-4 : goal.returns-in-3-to-4
 returns-in-3-to-4 c =
+    let q : Next c.args.sample c.args.table.now c.args.draft.now c.args.j = c.requires in
+    let word : WordAt c.args.table.now c.args.j c.read-w.result.kind c.read-w.result.left c.read-w.result.right = c.read-w.ensures in
     let x = c in
     let r = x in
-    rw x.leaf-in-3-to-4.ensures (letter-filled (q r) (word r) (omega arith) (omega arith) x.reading.ensures)
+    rw x.leaf-in-3-to-4.ensures (letter-filled (q) (word) (omega arith) (omega arith) x.reading.ensures)
 
 pub returns-in-5-to-6 : goal.returns-in-5-to-6
 returns-in-5-to-6 c =
+    let q : Next c.args.sample c.args.table.now c.args.draft.now c.args.j = c.requires in
+    let word : WordAt c.args.table.now c.args.j c.read-w.result.kind c.read-w.result.left c.read-w.result.right = c.read-w.ensures in
     let x = c in
     let r = x in
-    rw x.junction.ensures (junction-filled (q r) (word r) (omega arith) (omega arith))
+    rw x.junction.ensures (junction-filled (q) (word) (omega arith) (omega arith))
 
 pub returns-in-8-to-9 : goal.returns-in-8-to-9
 returns-in-8-to-9 c =
+    let q : Next c.args.sample c.args.table.now c.args.draft.now c.args.j = c.requires in
+    let word : WordAt c.args.table.now c.args.j c.read-w.result.kind c.read-w.result.left c.read-w.result.right = c.read-w.ensures in
+    let until_like : Fixpoint conj disj (shape c.read-w.result.kind) = until_at _ (omega (arith, c.in_default-1.rest)) (omega arith) in
     let x = c in
     let then = x in
     let r = then in
-    rw x.fixpoint.ensures (fixpoint-filled (q r) (word r) (until_like then))
+    rw x.fixpoint.ensures (fixpoint-filled (q) (word) (until_like))
 
 pub returns-in_default : goal.returns-in_default
 returns-in_default c =
+    let q : Next c.args.sample c.args.table.now c.args.draft.now c.args.j = c.requires in
+    let word : WordAt c.args.table.now c.args.j c.read-w.result.kind c.read-w.result.left c.read-w.result.right = c.read-w.ensures in
+    let release-like : Fixpoint disj conj (shape c.read-w.result.kind) = let r = c in
+    release_at _ (⊎_elim (λ w. absurd (omega (arith, (word).positive))) (λ w. w.4.left) c.in_default.branch) (plain_at (q) (word)) in
     let x = c in
     let joined = x in
     let r = joined in
-    rw x.fixpoint-in_default.ensures (fixpoint-filled (q r) (word r) (release-like joined))
+    rw x.fixpoint-in_default.ensures (fixpoint-filled (q) (word) (release-like))

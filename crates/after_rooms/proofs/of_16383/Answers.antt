@@ -16,13 +16,11 @@ slice_bounds-of_49152-end c = still_long 49152 c.fill.auto.1.1.0
 
 pub of_49152-requires : goal.of_49152-requires
 of_49152-requires c =
-    let filled = c in
-    to_number 16383 49152 filled.requires _ filled.fill.ensures (omega arith) filled.fill.auto.1.1.0
+    to_number 16383 49152 c.requires _ c.fill.ensures (omega arith) c.fill.auto.1.1.0
 
 pub shape_of-res : goal.shape_of-res
 shape_of-res c = c.of_49152.auto.1.1.0
 
 pub returns : goal.returns
 returns c =
-    let filled = c in
-    remainder_written 16383 49152 filled.requires _ filled.fill.ensures c.of_49152.ensures
+    remainder_written 16383 49152 c.requires _ c.fill.ensures c.of_49152.ensures

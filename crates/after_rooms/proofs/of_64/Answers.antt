@@ -16,13 +16,11 @@ slice_bounds-of_195-end c = still_long 195 c.fill.auto.1.1.0
 
 pub of_195-requires : goal.of_195-requires
 of_195-requires c =
-    let filled = c in
-    to_number 64 195 filled.requires _ filled.fill.ensures (omega arith) filled.fill.auto.1.1.0
+    to_number 64 195 c.requires _ c.fill.ensures (omega arith) c.fill.auto.1.1.0
 
 pub shape_of-res : goal.shape_of-res
 shape_of-res c = c.of_195.auto.1.1.0
 
 pub returns : goal.returns
 returns c =
-    let filled = c in
-    remainder_written 64 195 filled.requires _ filled.fill.ensures c.of_195.ensures
+    remainder_written 64 195 c.requires _ c.fill.ensures c.of_195.ensures

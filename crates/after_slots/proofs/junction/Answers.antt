@@ -3,4 +3,4 @@ use mathlib.Core.Path.{refl}
 use Rattle.after_slots.proofs.junction.Goals as goal
 
 pub returns : goal.returns
-returns c = let last = c in rw (last.store-2.ensures, last.store.ensures) refl
+returns c = rw (c.store-2.ensures, c.store.ensures) refl

@@ -5,8 +5,7 @@ use Rattle.automaton_states.proofs.list.Goals as goal
 
 pub returns-then-n-room : goal.returns-then-n-room
 returns-then-n-room c =
-    let asked = c in
-    listed_made asked.write-n.ensures asked.room.ensures c.if-n-room.true
+    listed_made c.write-n.ensures c.room.ensures c.if-n-room.true
 
 pub returns : goal.returns
 returns c =

@@ -42,7 +42,7 @@ with_part-sum-requires c =
     (joinable_again q.0 inv.1 inv.2 inv.3 inv.4 inv.7 inv.8.numbered, (q.1.0 _ (choice-inside inv.0 (shifted (start l).args.bits q.1.1)), inv.8.small))
 
 pub overflow_add-ones : goal.overflow_add-ones
-overflow_add-ones c = let l = began c in count_fits l.before.loop.inv.0 l.loop-test.taken (start l.before).pre.1.1
+overflow_add-ones c = let l = began c in count_fits l.before.loop.inv.0 l.loop-test.taken (start l.before).requires.1.1
 
 pub loop-ones-smaller-then-choice-eq0 : goal.loop-ones-smaller-then-choice-eq0
 loop-ones-smaller-then-choice-eq0 c = let l = began c in row_less l.before.loop.inv.0 l.loop-test.taken
@@ -61,7 +61,7 @@ loop-ones-preserved-then-choice-eq0 c =
       kept.1.1.1.1.0 ∙ inv.5,
       kept.1.1.1.1.1.0 ∙ inv.6,
       done.with_part.ensures.1,
-      row-grown _ _ _ _ _ inv.0 (shifted (start l.before).args.bits (start l.before).pre.1.1) c.if-choice-eq0.true inv.8 done.with_part.ensures.0,
+      row-grown _ _ _ _ _ inv.0 (shifted (start l.before).args.bits (start l.before).requires.1.1) c.if-choice-eq0.true inv.8 done.with_part.ensures.0,
     )
 
 pub loop-ones-smaller : goal.loop-ones-smaller

@@ -16,33 +16,36 @@ use Rattle.classes.proofs.classify.Goals as goal
 abbrev start : goal.In-Accepted → goal.Start
 start c = c
 
--- the table has passed the checks
-accepted : (c : goal.In-Accepted) → headed_checked true 16383 (start c).args.table.now ≡ Accepted
-accepted c = sym c.check.ensures ∙ c.enum_told-1.given.1
-
 pub overflow_sub-table : goal.overflow_sub-table
-overflow_sub-table c = omega (arith, some_word _ _ _ (accepted c))
+overflow_sub-table c =
+    let accepted : headed_checked true 16383 (start c).args.table.now ≡ Accepted = sym c.check.ensures ∙ c.enum_told-1.given.1 in
+    omega (arith, some_word _ _ _ (accepted))
 
 pub returns-then-bytes-table : goal.returns-then-bytes-table
 unfolding headed_checked
 returns-then-bytes-table c =
+    let accepted : headed_checked true 16383 (start c).args.table.now ≡ Accepted = sym c.check.ensures ∙ c.enum_told-1.given.1 in
     let tested = c in
     let t = (start tested).args.table.now in
     let b = (start tested).args.bytes.now in
-    let a = accepted tested in
+    let a = accepted in
     let f = too_short t a b (omega (arith, tested.if-bytes-table.true)) in
     (sym (too_long class_step t b a f), c.bytes.ensures ∙ sym (too_long-result class_step t b a f))
 
 pub slice_bounds-fill-count : goal.slice_bounds-fill-count
-slice_bounds-fill-count c = omega (arith, some_word _ _ _ (accepted c))
+slice_bounds-fill-count c =
+    let accepted : headed_checked true 16383 (start c).args.table.now ≡ Accepted = sym c.check.ensures ∙ c.enum_told-1.given.1 in
+    omega (arith, some_word _ _ _ (accepted))
 
 pub slice_bounds-fill-start : goal.slice_bounds-fill-start
-slice_bounds-fill-start c = omega (arith, some_word _ _ _ (accepted c))
+slice_bounds-fill-start c =
+    let accepted : headed_checked true 16383 (start c).args.table.now ≡ Accepted = sym c.check.ensures ∙ c.enum_told-1.given.1 in
+    omega (arith, some_word _ _ _ (accepted))
 
 pub fill-requires : goal.fill-requires
 fill-requires c =
-    let tested = c in
-    enough (start tested).args.table.now (accepted tested) (start tested).args.bytes.now (omega (arith, tested.if-bytes-table.false))
+    let accepted : headed_checked true 16383 (start c).args.table.now ≡ Accepted = sym c.check.ensures ∙ c.enum_told-1.given.1 in
+    enough (start c).args.table.now (accepted) (start c).args.bytes.now (omega (arith, c.if-bytes-table.false))
 
 pub returns-in-Refused : goal.returns-in-Refused
 unfolding headed_checked
@@ -54,9 +57,10 @@ returns-in-Refused c =
 pub returns-else-bytes-table : goal.returns-else-bytes-table
 unfolding headed_checked
 returns-else-bytes-table c =
+    let accepted : headed_checked true 16383 (start c).args.table.now ≡ Accepted = sym c.check.ensures ∙ c.enum_told-1.given.1 in
     let tested = c in
     let t = (start tested).args.table.now in
     let b = (start tested).args.bytes.now in
-    let a = accepted tested in
+    let a = accepted in
     let h : length t - 1 ≤ length b = omega (arith, tested.if-bytes-table.false) in
     (sym (made class_step t b a (long_enough t a b h)), c.fill.ensures ∙ sym (written t a b h))

@@ -7,8 +7,7 @@ use Rattle.closed_sums.proofs.close.Goals as goal
 pub returns-in-Nothing : goal.returns-in-Nothing
 returns-in-Nothing c =
     λ s₀ χ p.
-    let put = c in
-    close-nothing χ (subst (Summed s₀ _ χ) put.enum_told-1.given.1 p) put.pack.ensures put.put.ensures
+    close-nothing χ (subst (Summed s₀ _ χ) c.enum_told-1.given.1 p) c.pack.ensures c.put.ensures
 
 pub returns-in-Full : goal.returns-in-Full
 returns-in-Full c s₀ χ p = (subst (Summed s₀ _ χ) c.enum_told-in-Full-1.given.1 p).1

@@ -10,19 +10,11 @@ use Rattle.agreement.specs.Comparing.{comparison_checks, compared}
 use Rattle.agreement.proofs.Promise.{Comparable, comparable, refused, accepted}
 use Rattle.comparing.proofs.compare.Goals as goal
 
-module _ (c : goal.In-Accepted) where
-  abbrev start : goal.Start
-  start = c
-
-  passed : first (comparison_checks (length start.args.samples.now) start.args.start start.args.driven
-      (length start.args.others.now) start.args.other-start start.args.other-driven) ≡ Accepted
-  passed = sym c.check_both.ensures ∙ c.enum_told-1.given.1
-
-  facts : Comparable start.args.samples.now start.args.start start.args.driven start.args.others.now start.args.other-start start.args.other-driven
-  facts = comparable _ _ _ _ _ _ passed
-
 pub first_difference-requires : goal.first_difference-requires
-first_difference-requires c = let f = facts c in (f.few_samples, f.few_samples', f.inside, f.inside', f.few)
+first_difference-requires c =
+    let passed : first (comparison_checks (length c.args.samples.now) c.args.start c.args.driven (length c.args.others.now) c.args.other-start c.args.other-driven) ≡ Accepted = sym c.check_both.ensures ∙ c.enum_told-1.given.1 in
+    let facts : Comparable c.args.samples.now c.args.start c.args.driven c.args.others.now c.args.other-start c.args.other-driven = comparable _ _ _ _ _ _ passed in
+    let f = facts in (f.few_samples, f.few_samples', f.inside, f.inside', f.few)
 
 pub returns-in-Refused : goal.returns-in-Refused
 returns-in-Refused c =
@@ -31,7 +23,9 @@ returns-in-Refused c =
 
 pub returns-in-Accepted : goal.returns-in-Accepted
 returns-in-Accepted c =
-    let a = (start c).args in
+    let passed : first (comparison_checks (length c.args.samples.now) c.args.start c.args.driven (length c.args.others.now) c.args.other-start c.args.other-driven) ≡ Accepted = sym c.check_both.ensures ∙ c.enum_told-1.given.1 in
+    let facts : Comparable c.args.samples.now c.args.start c.args.driven c.args.others.now c.args.other-start c.args.other-driven = comparable _ _ _ _ _ _ passed in
+    let a = c.args in
     c.first_difference.ensures
-    ∙ ap (λ (k : ℕ). compared (lasso_of a.samples.now a.start a.driven) (lasso_of a.others.now a.other-start k)) (facts c).counts
-    ∙ sym (accepted a.samples.now a.start a.driven a.others.now a.other-start a.other-driven (passed c))
+    ∙ ap (λ (k : ℕ). compared (lasso_of a.samples.now a.start a.driven) (lasso_of a.others.now a.other-start k)) (facts).counts
+    ∙ sym (accepted a.samples.now a.start a.driven a.others.now a.other-start a.other-driven (passed))

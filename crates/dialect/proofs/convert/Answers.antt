@@ -12,18 +12,20 @@ use Rattle.dialect.proofs.convert.Goals as goal
 abbrev start : goal.In-Accepted → goal.Start
 start c = c
 
--- the table has passed the checks
-accepted : (c : goal.In-Accepted) → headed_checked true 16383 (start c).args.table.now ≡ Accepted
-accepted c = sym c.check.ensures ∙ c.enum_told-1.given.1
-
 pub slice_bounds-answer-count : goal.slice_bounds-answer-count
-slice_bounds-answer-count c = omega (arith, some_word _ _ _ (accepted c))
+slice_bounds-answer-count c =
+    let accepted : headed_checked true 16383 (start c).args.table.now ≡ Accepted = sym c.check.ensures ∙ c.enum_told-1.given.1 in
+    omega (arith, some_word _ _ _ (accepted))
 
 pub slice_bounds-answer-start : goal.slice_bounds-answer-start
-slice_bounds-answer-start c = omega (arith, some_word _ _ _ (accepted c))
+slice_bounds-answer-start c =
+    let accepted : headed_checked true 16383 (start c).args.table.now ≡ Accepted = sym c.check.ensures ∙ c.enum_told-1.given.1 in
+    omega (arith, some_word _ _ _ (accepted))
 
 pub answer-requires : goal.answer-requires
-answer-requires c = words-accepted _ (accepted c)
+answer-requires c =
+    let accepted : headed_checked true 16383 (start c).args.table.now ≡ Accepted = sym c.check.ensures ∙ c.enum_told-1.given.1 in
+    words-accepted _ (accepted)
 
 pub returns-in-Refused : goal.returns-in-Refused
 returns-in-Refused c =
@@ -33,6 +35,6 @@ returns-in-Refused c =
 
 pub returns-in-Accepted : goal.returns-in-Accepted
 returns-in-Accepted c =
-    let told = c in
-    let r = made (start told).args.table.now (start told).args.res.now (accepted told) c.answer.ensures in
+    let accepted : headed_checked true 16383 (start c).args.table.now ≡ Accepted = sym c.check.ensures ∙ c.enum_told-1.given.1 in
+    let r = made (start c).args.table.now (start c).args.res.now (accepted) c.answer.ensures in
     (r.reply, r.slice)

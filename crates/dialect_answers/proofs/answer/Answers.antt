@@ -13,8 +13,7 @@ finish-requires c = record { within = λ z. absurd (z refl); words = λ z. absur
 
 pub returns-then-res-eq0 : goal.returns-then-res-eq0
 returns-then-res-eq0 c =
-    let empty = c in
-    given_empty _ empty.args.res.now (omega (arith, empty.if-res-eq0.true)) c.finish.ensures
+    given_empty _ c.args.res.now (omega (arith, c.if-res-eq0.true)) c.finish.ensures
 
 pub finish-requires-2 : goal.finish-requires-2
 finish-requires-2 c =

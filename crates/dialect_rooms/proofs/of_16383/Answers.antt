@@ -16,13 +16,11 @@ slice_bounds-of_32768-end c = still_long 32768 c.fill.auto.1.0
 
 pub of_32768-requires : goal.of_32768-requires
 of_32768-requires c =
-    let filled = c in
-    to_number 16383 32768 filled.requires filled.fill.ensures (omega arith) filled.fill.auto.1.0
+    to_number 16383 32768 c.requires c.fill.ensures (omega arith) c.fill.auto.1.0
 
 pub shape_of-res : goal.shape_of-res
 shape_of-res c = c.of_32768.auto.1.1.0
 
 pub returns : goal.returns
 returns c =
-    let filled = c in
-    conversion_written 16383 32768 filled.requires filled.fill.ensures c.of_32768.ensures
+    conversion_written 16383 32768 c.requires c.fill.ensures c.of_32768.ensures

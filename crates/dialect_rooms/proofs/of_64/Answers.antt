@@ -16,13 +16,11 @@ slice_bounds-of_195-end c = still_long 130 c.fill.auto.1.0
 
 pub of_195-requires : goal.of_195-requires
 of_195-requires c =
-    let filled = c in
-    asked_larger (to_number 64 130 filled.requires filled.fill.ensures (omega arith) filled.fill.auto.1.0) (omega arith)
+    asked_larger (to_number 64 130 c.requires c.fill.ensures (omega arith) c.fill.auto.1.0) (omega arith)
 
 pub shape_of-res : goal.shape_of-res
 shape_of-res c = c.of_195.auto.1.1.0
 
 pub returns : goal.returns
 returns c =
-    let filled = c in
-    conversion_written 64 130 filled.requires filled.fill.ensures c.of_195.ensures
+    conversion_written 64 130 c.requires c.fill.ensures c.of_195.ensures

@@ -12,20 +12,6 @@ use Rattle.agreement.specs.Comparing.{alike, difference_in, window, compared}
 use Rattle.agreement.proofs.Reading.{reading, place_next, compared-reading, passed_same, passed_differ, passed_all}
 use Rattle.differing.proofs.first_difference.Goals as goal
 
--- what the two samples that were read say of the moment
-module _ (c : goal.After-alike) where
-  abbrev l : goal.At-loop-i
-  l = c
-
-  abbrev start : goal.Start
-  start = l.before.before.before.before.before
-
-  told : c.alike.result ≡ alike start.args.driven
-      (reading start.args.samples.now start.args.start l.loop.i) (reading start.args.others.now start.args.other-start l.loop.i)
-  told =
-      c.alike.ensures start.args.driven l.before.before.driven-bits.ensures
-      ∙ ap₂ (alike start.args.driven) (ap (λ (p : ℕ). get_or start.args.samples.now p 0) l.loop.inv.3) (ap (λ (p : ℕ). get_or start.args.others.now p 0) l.loop.inv.4)
-
 -- the answer is that of a search from the moment on
 searched : (l : goal.At-loop-i) →
     let s = l in
@@ -72,7 +58,10 @@ pub alike-requires : goal.alike-requires
 alike-requires c = search rules
 
 pub returns-then-not-alike : goal.returns-then-not-alike
-returns-then-not-alike c = sym (searched (l c) ∙ passed_differ _ _ _ _ _ c.loop-i-test.true (sym (told c) ∙ not-true c.alike.result c.if-not-alike.true))
+returns-then-not-alike c =
+    let told : c.alike.result ≡ alike c.args.driven (reading c.args.samples.now c.args.start c.loop.i) (reading c.args.others.now c.args.other-start c.loop.i) = c.alike.ensures c.args.driven c.before.before.driven-bits.ensures
+    ∙ ap₂ (alike c.args.driven) (ap (λ (p : ℕ). get_or c.args.samples.now p 0) c.loop.inv.3) (ap (λ (p : ℕ). get_or c.args.others.now p 0) c.loop.inv.4) in
+    sym (searched c ∙ passed_differ _ _ _ _ _ c.loop-i-test.true (sym (told) ∙ not-true c.alike.result c.if-not-alike.true))
 
 pub following-at-requires : goal.following-at-requires
 following-at-requires c = search rules
@@ -88,21 +77,22 @@ loop-i-smaller c = omega arith
 
 pub loop-i-preserved : goal.loop-i-preserved
 loop-i-preserved c =
-    let e = c in
-    let s = start e in
-    let i : suc (l e).loop.i ≡ (l e).loop.i + 1 = omega arith in
-    let at : c.following-at.result ≡ place (length s.args.samples.now) s.args.start ((l e).loop.i + 1) =
-    c.following-at.ensures ∙ ap (λ (p : ℕ). cond (ltb (p + 1) (length s.args.samples.now)) (p + 1) s.args.start) (l e).loop.invariant.3
-    ∙ sym (place_next _ _ (l e).loop.i s.pre.2) ∙ ap (place (length s.args.samples.now) s.args.start) i in
-    let other : c.following-other.result ≡ place (length s.args.others.now) s.args.other-start ((l e).loop.i + 1) =
-    c.following-other.ensures ∙ ap (λ (p : ℕ). cond (ltb (p + 1) (length s.args.others.now)) (p + 1) s.args.other-start) (l e).loop.invariant.4
-    ∙ sym (place_next _ _ (l e).loop.i s.pre.3) ∙ ap (place (length s.args.others.now) s.args.other-start) i in (
-      omega (arith, e.loop-i-test.true),
-      omega (arith, at, place_lt (length s.args.samples.now) s.args.start ((l e).loop.i + 1) s.pre.2),
-      omega (arith, other, place_lt (length s.args.others.now) s.args.other-start ((l e).loop.i + 1) s.pre.3),
+    let told : c.alike.result ≡ alike c.args.driven (reading c.args.samples.now c.args.start c.loop.i) (reading c.args.others.now c.args.other-start c.loop.i) = c.alike.ensures c.args.driven c.before.before.driven-bits.ensures
+    ∙ ap₂ (alike c.args.driven) (ap (λ (p : ℕ). get_or c.args.samples.now p 0) c.loop.inv.3) (ap (λ (p : ℕ). get_or c.args.others.now p 0) c.loop.inv.4) in
+    let s = c in
+    let i : suc c.loop.i ≡ c.loop.i + 1 = omega arith in
+    let at : c.following-at.result ≡ place (length s.args.samples.now) s.args.start (c.loop.i + 1) =
+    c.following-at.ensures ∙ ap (λ (p : ℕ). cond (ltb (p + 1) (length s.args.samples.now)) (p + 1) s.args.start) c.loop.invariant.3
+    ∙ sym (place_next _ _ c.loop.i s.pre.2) ∙ ap (place (length s.args.samples.now) s.args.start) i in
+    let other : c.following-other.result ≡ place (length s.args.others.now) s.args.other-start (c.loop.i + 1) =
+    c.following-other.ensures ∙ ap (λ (p : ℕ). cond (ltb (p + 1) (length s.args.others.now)) (p + 1) s.args.other-start) c.loop.invariant.4
+    ∙ sym (place_next _ _ c.loop.i s.pre.3) ∙ ap (place (length s.args.others.now) s.args.other-start) i in (
+      omega (arith, c.loop-i-test.true),
+      omega (arith, at, place_lt (length s.args.samples.now) s.args.start (c.loop.i + 1) s.pre.2),
+      omega (arith, other, place_lt (length s.args.others.now) s.args.other-start (c.loop.i + 1) s.pre.3),
       at,
       other,
-      (l e).loop.invariant.5 ∙ passed_same _ _ _ _ _ e.loop-i-test.true (sym (told e) ∙ not-false e.alike.result c.if-not-alike.false),
+      c.loop.invariant.5 ∙ passed_same _ _ _ _ _ c.loop-i-test.true (sym (told) ∙ not-false c.alike.result c.if-not-alike.false),
     )
 
 pub returns : goal.returns

@@ -23,24 +23,8 @@ asking c = c
 abbrev putting : goal.After-put-n → goal.After-next
 putting c = c
 
-stack_long : (c : goal.At-loop-i) → length c.loop-i.stack ≡ length (start c).args.stack.now
-stack_long c = c.loop-i.invariant.1 ∙ length-set (start c).args.stack.now 0 (start c).args.root
-
 numbers_long : (c : goal.At-loop-i) (n : ℕ) → length (set c.loop-i.numbers (top c) n) ≡ length (start c).args.numbers.now
 numbers_long c n = length-set c.loop-i.numbers (top c) n ∙ c.loop-i.invariant.0
-
-low-at : (c : goal.At-loop-i) → Low (top c) c.loop-i.height (length (start c).args.draft.now)
-low-at c = low (start c).args.root c.loop-i.invariant.6.some c.loop-i.invariant.5 c.loop-i.invariant.4 (start c).requires.1.few
-
-numbered : (c : goal.At-loop-i) → top c < length c.loop-i.numbers
-numbered c = top-inside (low-at c) c.loop-i.invariant.0 (start c).requires.1.numbers_long
-
--- what is pushed lies below the top
-lower : (c : goal.In-Operand) → c.i-1.given.0.0 < top (asking c)
-lower c =
-    let at-loop = asking c in
-    let pre = (start at-loop).pre.1 in
-    going-earlier pre.few at-loop.loop.inv.6 pre.formula pre.drafted c.i-1.given.0.0 (sym c.next.ensures ∙ c.i-1.given.1)
 
 -- what is placed is the word of the top
 worded : (c : goal.After-put-n)
@@ -81,50 +65,76 @@ pub overflow_sub-top : goal.overflow_sub-top
 overflow_sub-top c = c.loop-i.invariant.6.some
 
 pub offset_bounds-stack-height : goal.offset_bounds-stack-height
-offset_bounds-stack-height c = index-fits (low-at c)
+offset_bounds-stack-height c =
+    let low-at : Low (top c) c.loop-i.height (length (start c).args.draft.now) = low (start c).args.root c.loop-i.invariant.6.some c.loop-i.invariant.5 c.loop-i.invariant.4 (start c).requires.1.few in
+    index-fits (low-at)
 
 pub bounds-stack-height : goal.bounds-stack-height
-bounds-stack-height c = stacked (low-at c) (stack_long c) (start c).pre.1.stack_long
+bounds-stack-height c =
+    let stack_long : length c.loop-i.stack ≡ length (start c).args.stack.now = c.loop-i.invariant.1 ∙ length-set (start c).args.stack.now 0 (start c).args.root in
+    let low-at : Low (top c) c.loop-i.height (length (start c).args.draft.now) = low (start c).args.root c.loop-i.invariant.6.some c.loop-i.invariant.5 c.loop-i.invariant.4 (start c).requires.1.few in
+    stacked (low-at) (stack_long) (start c).requires.1.stack_long
 
 pub overflow_cast-top : goal.overflow_cast-top
-overflow_cast-top c = top-fits (low-at c)
+overflow_cast-top c =
+    let low-at : Low (top c) c.loop-i.height (length (start c).args.draft.now) = low (start c).args.root c.loop-i.invariant.6.some c.loop-i.invariant.5 c.loop-i.invariant.4 (start c).requires.1.few in
+    top-fits (low-at)
 
 pub offset_bounds-draft-top : goal.offset_bounds-draft-top
-offset_bounds-draft-top c = slot-fits (low-at c)
+offset_bounds-draft-top c =
+    let low-at : Low (top c) c.loop-i.height (length (start c).args.draft.now) = low (start c).args.root c.loop-i.invariant.6.some c.loop-i.invariant.5 c.loop-i.invariant.4 (start c).requires.1.few in
+    slot-fits (low-at)
 
 pub bounds-draft-top : goal.bounds-draft-top
-bounds-draft-top c = top_in (low-at c)
+bounds-draft-top c =
+    let low-at : Low (top c) c.loop-i.height (length (start c).args.draft.now) = low (start c).args.root c.loop-i.invariant.6.some c.loop-i.invariant.5 c.loop-i.invariant.4 (start c).requires.1.few in
+    top_in (low-at)
 
 pub next-requires : goal.next-requires
 next-requires c =
-    let at-loop = c in
-    let pre = (start at-loop).requires.1 in
-    going_turnable pre.few at-loop.loop-i.invariant.6 pre.formula pre.drafted (longer _ at-loop.loop-i.invariant.0 pre.numbers_long)
+    let pre = (start c).requires.1 in
+    going_turnable pre.few c.loop-i.invariant.6 pre.formula pre.drafted (longer _ c.loop-i.invariant.0 pre.numbers_long)
 
 pub enum_known-i : goal.enum_known-i
 enum_known-i c = c.in-Operand.keys1
 
 pub overflow_cast-stack-in-Operand : goal.overflow_cast-stack-in-Operand
-overflow_cast-stack-in-Operand c = lower_fits (low-at (asking c)) (lower c)
+overflow_cast-stack-in-Operand c =
+    let low-at : Low (top c) c.loop-i.height (length (start c).args.draft.now) = low (start c).args.root c.loop-i.invariant.6.some c.loop-i.invariant.5 c.loop-i.invariant.4 (start c).requires.1.few in
+    let lower : c.i-1.given.0.0 < top (asking c) = let at-loop = asking c in
+    let pre = (start at-loop).requires.1 in
+    going-earlier pre.few at-loop.loop.inv.6 pre.formula pre.drafted c.i-1.given.0.0 (sym c.next.ensures ∙ c.i-1.given.1) in
+    lower_fits (low-at (asking c)) (lower)
 
 pub offset_bounds-stack-height-in-Operand : goal.offset_bounds-stack-height-in-Operand
-offset_bounds-stack-height-in-Operand c = push_fits (low-at (asking c))
+offset_bounds-stack-height-in-Operand c =
+    let low-at : Low (top c) c.loop-i.height (length (start c).args.draft.now) = low (start c).args.root c.loop-i.invariant.6.some c.loop-i.invariant.5 c.loop-i.invariant.4 (start c).requires.1.few in
+    push_fits (low-at (asking c))
 
 pub bounds-stack-height-in-Operand : goal.bounds-stack-height-in-Operand
 bounds-stack-height-in-Operand c =
+    let stack_long : length c.loop-i.stack ≡ length (start c).args.stack.now = c.loop-i.invariant.1 ∙ length-set (start c).args.stack.now 0 (start c).args.root in
+    let low-at : Low (top c) c.loop-i.height (length (start c).args.draft.now) = low (start c).args.root c.loop-i.invariant.6.some c.loop-i.invariant.5 c.loop-i.invariant.4 (start c).requires.1.few in
+    let lower : c.i-1.given.0.0 < top (asking c) = let at-loop = asking c in
+    let pre = (start at-loop).requires.1 in
+    going-earlier pre.few at-loop.loop.inv.6 pre.formula pre.drafted c.i-1.given.0.0 (sym c.next.ensures ∙ c.i-1.given.1) in
     let at-loop = asking c in
-    higher_in (low-at at-loop) (lower c) (stack_long at-loop) (start at-loop).pre.1.stack_long
+    higher_in (low-at at-loop) (lower) (stack_long at-loop) (start at-loop).requires.1.stack_long
 
 pub overflow_add-height : goal.overflow_add-height
-overflow_add-height c = more_fits (low-at (asking c))
+overflow_add-height c =
+    let low-at : Low (top c) c.loop-i.height (length (start c).args.draft.now) = low (start c).args.root c.loop-i.invariant.6.some c.loop-i.invariant.5 c.loop-i.invariant.4 (start c).requires.1.few in
+    more_fits (low-at (asking c))
 
 pub loop-i-smaller-in-Operand : goal.loop-i-smaller-in-Operand
-loop-i-smaller-in-Operand c = pushed (low-at (asking c)) _
+loop-i-smaller-in-Operand c =
+    let low-at : Low (top c) c.loop-i.height (length (start c).args.draft.now) = low (start c).args.root c.loop-i.invariant.6.some c.loop-i.invariant.5 c.loop-i.invariant.4 (start c).requires.1.few in
+    pushed (low-at (asking c)) _
 
 pub loop-i-preserved-in-Operand : goal.loop-i-preserved-in-Operand
 loop-i-preserved-in-Operand c =
     let at-loop = asking c in
-    let pre = (start at-loop).pre.1 in
+    let pre = (start at-loop).requires.1 in
     let inv = at-loop.loop.inv in
     let j = c.i-1.given.0.0 in
     let g = going_push pre.few inv.6 pre.formula pre.drafted j (higher c) (sym c.next.ensures ∙ c.i-1.given.1) in
@@ -140,16 +150,23 @@ pub overflow_cast-numbers : goal.overflow_cast-numbers
 overflow_cast-numbers c = answer-fits c.put-n.ensures
 
 pub offset_bounds-numbers-top : goal.offset_bounds-numbers-top
-offset_bounds-numbers-top c = number_fits (low-at (asking (putting c)))
+offset_bounds-numbers-top c =
+    let low-at : Low (top c) c.loop-i.height (length (start c).args.draft.now) = low (start c).args.root c.loop-i.invariant.6.some c.loop-i.invariant.5 c.loop-i.invariant.4 (start c).requires.1.few in
+    number_fits (low-at (asking (putting c)))
 
 pub bounds-numbers-top : goal.bounds-numbers-top
-bounds-numbers-top c = numbered (asking (putting c))
+bounds-numbers-top c =
+    let low-at : Low (top c) c.loop-i.height (length (start c).args.draft.now) = low (start c).args.root c.loop-i.invariant.6.some c.loop-i.invariant.5 c.loop-i.invariant.4 (start c).requires.1.few in
+    let numbered : top c < length c.loop-i.numbers = top-inside (low-at) c.loop-i.invariant.0 (start c).requires.1.numbers_long in
+    numbered (asking (putting c))
 
 pub shape_of-numbers-then-n-eq0 : goal.shape_of-numbers-then-n-eq0
 shape_of-numbers-then-n-eq0 c = numbers_long (asking (putting c)) c.put-n.result
 
 pub shape_of-stack-then-n-eq0 : goal.shape_of-stack-then-n-eq0
-shape_of-stack-then-n-eq0 c = stack_long (asking (putting c))
+shape_of-stack-then-n-eq0 c =
+    let stack_long : length c.loop-i.stack ≡ length (start c).args.stack.now = c.loop-i.invariant.1 ∙ length-set (start c).args.stack.now 0 (start c).args.root in
+    stack_long (asking (putting c))
 
 pub shape_of-out-then-n-eq0 : goal.shape_of-out-then-n-eq0
 shape_of-out-then-n-eq0 c = c.put-n.auto.0 ∙ (asking (putting c)).loop.inv.2
@@ -159,15 +176,18 @@ shape_of-index-then-n-eq0 c = c.put-n.auto.1.0 ∙ (asking (putting c)).loop.inv
 
 pub returns-then-n-eq0 : goal.returns-then-n-eq0
 returns-then-n-eq0 c =
-    let at-put = c in
-    let at-loop = asking (putting at-put) in
-    going-full (start at-loop).pre.1.few at-loop.loop.inv.6 _ (numbered at-loop) (worded at-put) at-put.put-n.ensures _ c.if-n-eq0.true
+    let low-at : Low (top c) c.loop-i.height (length (start c).args.draft.now) = low (start c).args.root c.loop-i.invariant.6.some c.loop-i.invariant.5 c.loop-i.invariant.4 (start c).requires.1.few in
+    let numbered : top c < length c.loop-i.numbers = top-inside (low-at) c.loop-i.invariant.0 (start c).requires.1.numbers_long in
+    let at-loop = asking (putting c) in
+    going-full (start at-loop).requires.1.few at-loop.loop.inv.6 _ (numbered at-loop) (worded c) c.put-n.ensures _ c.if-n-eq0.true
 
 pub shape_of-numbers-then-height-eq1 : goal.shape_of-numbers-then-height-eq1
 shape_of-numbers-then-height-eq1 c = numbers_long (asking (putting c)) c.put-n.result
 
 pub shape_of-stack-then-height-eq1 : goal.shape_of-stack-then-height-eq1
-shape_of-stack-then-height-eq1 c = stack_long (asking (putting c))
+shape_of-stack-then-height-eq1 c =
+    let stack_long : length c.loop-i.stack ≡ length (start c).args.stack.now = c.loop-i.invariant.1 ∙ length-set (start c).args.stack.now 0 (start c).args.root in
+    stack_long (asking (putting c))
 
 pub shape_of-out-then-height-eq1 : goal.shape_of-out-then-height-eq1
 shape_of-out-then-height-eq1 c = c.put-n.auto.0 ∙ (asking (putting c)).loop.inv.2
@@ -177,35 +197,38 @@ shape_of-index-then-height-eq1 c = c.put-n.auto.1.0 ∙ (asking (putting c)).loo
 
 pub returns-then-height-eq1 : goal.returns-then-height-eq1
 returns-then-height-eq1 c =
-    let at-put = c in
-    let at-loop = asking (putting at-put) in
-    going_done (start at-loop).pre.1.few at-loop.loop.inv.6 _ (numbered at-loop) (worded at-put) at-put.put-n.ensures (positive c.if-n-eq0.false) c.if-height-eq1.true
+    let low-at : Low (top c) c.loop-i.height (length (start c).args.draft.now) = low (start c).args.root c.loop-i.invariant.6.some c.loop-i.invariant.5 c.loop-i.invariant.4 (start c).requires.1.few in
+    let numbered : top c < length c.loop-i.numbers = top-inside (low-at) c.loop-i.invariant.0 (start c).requires.1.numbers_long in
+    let at-loop = asking (putting c) in
+    going_done (start at-loop).requires.1.few at-loop.loop.inv.6 _ (numbered at-loop) (worded c) c.put-n.ensures (positive c.if-n-eq0.false) c.if-height-eq1.true
 
 pub overflow_sub-height : goal.overflow_sub-height
 overflow_sub-height c = (asking (putting c)).loop.inv.6.some
 
 pub loop-i-smaller : goal.loop-i-smaller
 loop-i-smaller c =
-    let at-put = c in
-    let at-loop = asking (putting at-put) in
-    let pre = (start at-loop).pre.1 in
+    let low-at : Low (top c) c.loop-i.height (length (start c).args.draft.now) = low (start c).args.root c.loop-i.invariant.6.some c.loop-i.invariant.5 c.loop-i.invariant.4 (start c).requires.1.few in
+    let numbered : top c < length c.loop-i.numbers = top-inside (low-at) c.loop-i.invariant.0 (start c).requires.1.numbers_long in
+    let at-loop = asking (putting c) in
+    let pre = (start at-loop).requires.1 in
     let inv = at-loop.loop.inv in
     let none = going_none pre.few inv.6 pre.formula pre.drafted in
-    popped (low-at at-loop) (zeros-set at-loop.loop.numbers (top at-loop) at-put.put-n.result (numbered at-loop) none (positive c.if-n-eq0.false))
+    popped (low-at at-loop) (zeros-set at-loop.loop.numbers (top at-loop) c.put-n.result (numbered at-loop) none (positive c.if-n-eq0.false))
 
 pub loop-i-preserved : goal.loop-i-preserved
 loop-i-preserved c =
-    let at-put = c in
-    let at-loop = asking (putting at-put) in
-    let pre = (start at-loop).pre.1 in
+    let low-at : Low (top c) c.loop-i.height (length (start c).args.draft.now) = low (start c).args.root c.loop-i.invariant.6.some c.loop-i.invariant.5 c.loop-i.invariant.4 (start c).requires.1.few in
+    let numbered : top c < length c.loop-i.numbers = top-inside (low-at) c.loop-i.invariant.0 (start c).requires.1.numbers_long in
+    let at-loop = asking (putting c) in
+    let pre = (start at-loop).requires.1 in
     let inv = at-loop.loop.inv in
     let g =
-    going_pop pre.few inv.6 _ (numbered at-loop) (worded at-put) at-put.put-n.ensures (positive c.if-n-eq0.false)
+    going_pop pre.few inv.6 _ (numbered at-loop) (worded c) c.put-n.ensures (positive c.if-n-eq0.false)
     (above_one inv.6.some c.if-height-eq1.false) in (
       length-set at-loop.loop.numbers _ _ ∙ inv.0,
       inv.1,
-      at-put.put-n.auto.0 ∙ inv.2,
-      at-put.put-n.auto.1.0 ∙ inv.3,
+      c.put-n.auto.0 ∙ inv.2,
+      c.put-n.auto.1.0 ∙ inv.3,
       inv.4,
       going-low pre.few g pre.formula pre.drafted,
       g,

@@ -13,9 +13,6 @@ still-fillable : (c : goal.After-fill_rows)
     → Fillable c.args.table.now c.args.samples.now c.args.start c.fill_rows.new.1.1.1.0
 still-fillable c = fillable-length _ _ c.fill_rows.auto.1.1.1.0 c.requires
 
-small : (c : goal.After-row_words-words) → (length c.args.table.now - 1) * c.row_words-words.result + c.row_words-words.result ≤ 1048576
-small c = last_small _ _ _ _ _ _ c.requires refl c.row_words-words.ensures
-
 pub fill_rows-requires : goal.fill_rows-requires
 fill_rows-requires c = c.requires
 
@@ -26,13 +23,19 @@ pub overflow_sub-from : goal.overflow_sub-from
 overflow_sub-from c = some_word _ _ _ _ _ _ c.requires refl c.row_words-words.ensures
 
 pub overflow_mul-from : goal.overflow_mul-from
-overflow_mul-from c = omega (arith, small c)
+overflow_mul-from c =
+    let small : (length c.args.table.now - 1) * c.row_words-words.result + c.row_words-words.result ≤ 1048576 = last_small _ _ _ _ _ _ c.requires refl c.row_words-words.ensures in
+    omega (arith, small)
 
 pub overflow_add-to : goal.overflow_add-to
-overflow_add-to c = omega (arith, small c)
+overflow_add-to c =
+    let small : (length c.args.table.now - 1) * c.row_words-words.result + c.row_words-words.result ≤ 1048576 = last_small _ _ _ _ _ _ c.requires refl c.row_words-words.ensures in
+    omega (arith, small)
 
 pub offset_bounds-scratch-from : goal.offset_bounds-scratch-from
-offset_bounds-scratch-from c = omega (arith, small c)
+offset_bounds-scratch-from c =
+    let small : (length c.args.table.now - 1) * c.row_words-words.result + c.row_words-words.result ≤ 1048576 = last_small _ _ _ _ _ _ c.requires refl c.row_words-words.ensures in
+    omega (arith, small)
 
 pub slice_bounds-read_answer-end : goal.slice_bounds-read_answer-end
 slice_bounds-read_answer-end c = last_end _ _ _ _ _ _ (still-fillable c) refl c.row_words-words.ensures
@@ -41,7 +44,8 @@ pub read_answer-requires : goal.read_answer-requires
 read_answer-requires c = last_for _ _ _ _ _ _ (still-fillable c) refl c.row_words-words.ensures
 
 pub returns : goal.returns
-returns c = (
+returns c =
+    (
   λ driven few e.
       accepted-answer _ _ _ driven _ _ _ c.requires.inside few e
       (last_row_lem _ _ _ _ _ _ (still-fillable c) refl c.row_words-words.ensures driven few _ (c.fill_rows.ensures driven few))

@@ -14,10 +14,6 @@ use Rattle.field_checks.proofs.First.{refused}
 use Rattle.fields.proofs.Layouts.{word_by_layout}
 use Rattle.fields.proofs.fault.Goals as goal
 
--- past the first two checks
-plain-enough : (c : goal.Joined-else-plain) → (c.args.plain && leb 12 c.kind-kind.result) ≡ false
-plain-enough c = ⊎_elim (λ w. rw w.0.taken w.1.left) (λ w. rw w.left) c.else-plain.branch
-
 pub returns-then-kind-eq0 : goal.returns-then-kind-eq0
 returns-then-kind-eq0 c = refused (rw (word_by_layout, eq-eqb (kind c.args.w) 0 (sym c.kind-kind.ensures ∙ c.if-kind-eq0.true)))
 
@@ -29,6 +25,7 @@ of_kind-requires c = (omega (arith, c.if-kind-eq0.false), rw c.kind-kind.ensures
 
 pub returns : goal.returns
 returns c =
+    let plain-enough : (c.args.plain && leb 12 c.kind-kind.result) ≡ false = ⊎_elim (λ w. rw w.0.taken w.1.left) (λ w. rw w.left) c.else-plain.branch in
     let laid : c.of_kind.result ≡ layout_of (shape (kind c.args.w)) = c.of_kind.ensures ∙ ap (λ (k : ℕ). layout_of (shape k)) c.kind-kind.ensures in
     let read = c.field_fault.ensures in
     record {
@@ -36,7 +33,7 @@ returns c =
           rw (
             word_by_layout,
             ne_eqb (kind c.args.w) 0 (rw c.kind-kind.ensures at c.if-kind-eq0.false),
-            rw c.kind-kind.ensures at (plain-enough c),
+            rw c.kind-kind.ensures at (plain-enough),
             ← laid,
             ← c.left.ensures,
             ← c.right.ensures,

@@ -12,13 +12,6 @@ use Rattle.fixpoints.proofs.UntilLike.{bits_all}
 use Rattle.fixpoints.proofs.Positions.{Keeping, keeping_none, one_taken, one_left, keeping-bits, keeping-few, keeping_more, keeping_all}
 use Rattle.fixpoints.proofs.count.Goals as goal
 
--- what is added for a word
-one : (c : goal.Joined-is_fixpoint) → c.if-is_fixpoint.one ≡ cond (is_fixpoint_word (get_or c.args.table.now c.loop-i.i 0)) 1 0
-one c = ⊎_elim (λ x. one_taken c.is_fixpoint.ensures x.0.taken x.1) (λ x. one_left c.is_fixpoint.ensures x.0.left x.1) c.if-is_fixpoint.branch
-
-few : (c : goal.Start) → bit_of c.args.table.now (length c.args.table.now) < 32
-few c = omega (arith, bits_all (accepted-well-formed true _ _ c.requires.accepted), c.requires.few)
-
 pub loop-i-init : goal.loop-i-init
 loop-i-init c = (keeping_none _ _ c.requires.long, refl)
 
@@ -33,9 +26,11 @@ bounds-table-i c = c.loop-i-test.true
 
 pub overflow_add-bits : goal.overflow_add-bits
 overflow_add-bits c =
+    let one : c.if-is_fixpoint.one ≡ cond (is_fixpoint_word (get_or c.args.table.now c.loop-i.i 0)) 1 0 = ⊎_elim (λ x. one_taken c.is_fixpoint.ensures x.0.taken x.1) (λ x. one_left c.is_fixpoint.ensures x.0.left x.1) c.if-is_fixpoint.branch in
+    let few : bit_of c.args.table.now (length c.args.table.now) < 32 = omega (arith, bits_all (accepted-well-formed true _ _ c.requires.accepted), c.requires.few) in
     let q = c.loop-i.invariant.0 in
     let h = c.loop-i-test.true in
-    omega (arith, keeping-bits q h (one c), keeping-few q h (few c))
+    omega (arith, keeping-bits q h (one), keeping-few q h (few))
 
 pub overflow_add-i : goal.overflow_add-i
 overflow_add-i c = omega (arith, c.loop-i-test.true)
@@ -45,9 +40,11 @@ loop-i-smaller c = omega (arith, c.loop-i-test.true)
 
 pub loop-i-preserved : goal.loop-i-preserved
 loop-i-preserved c =
+    let one : c.if-is_fixpoint.one ≡ cond (is_fixpoint_word (get_or c.args.table.now c.loop-i.i 0)) 1 0 = ⊎_elim (λ x. one_taken c.is_fixpoint.ensures x.0.taken x.1) (λ x. one_left c.is_fixpoint.ensures x.0.left x.1) c.if-is_fixpoint.branch in
+    let few : bit_of c.args.table.now (length c.args.table.now) < 32 = omega (arith, bits_all (accepted-well-formed true _ _ c.requires.accepted), c.requires.few) in
     let q = c.loop-i.invariant in
     let h = c.loop-i-test.true in
-    (keeping_more q.0 h (few c) (one c) refl refl, simp length-set q.1)
+    (keeping_more q.0 h (few) (one) refl refl, simp length-set q.1)
 
 pub overflow_cast-result : goal.overflow_cast-result
 overflow_cast-result c = omega (arith, c.loop-i.invariant.0.bits_are, c.loop-i.invariant.0.kept.few)

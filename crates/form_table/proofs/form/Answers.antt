@@ -18,8 +18,7 @@ looked c = c
 
 pub any-requires : goal.any-requires
 any-requires c =
-    let f = c in
-    (ready_first (start f).requires f.fill_words.auto.1.0 f.fill_words.ensures, ((start f).requires.bits_are, (start f).requires.few))
+    (ready_first (start c).requires c.fill_words.auto.1.0 c.fill_words.ensures, ((start c).requires.bits_are, (start c).requires.few))
 
 pub returns-then-any : goal.returns-then-any
 returns-then-any c =
@@ -38,8 +37,7 @@ all-sum-requires c =
 
 pub close-requires : goal.close-requires
 close-requires c =
-    let all = c in
-    summed-numbered _ _ _ all.all-sum.result (start (laid (looked all))).requires.numbered all.all-sum.ensures
+    summed-numbered _ _ _ c.all-sum.result (start (laid (looked c))).requires.numbered c.all-sum.ensures
 
 pub returns : goal.returns
 returns c =

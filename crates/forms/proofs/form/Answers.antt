@@ -13,4 +13,4 @@ count-bits-requires c =
     record { limit = q.limit; accepted = q.accepted; few = q.few; long = rw (length-replicate {A = ℕ} positions_length 0) (omega (arith, q.short, (accepted-well-formed true _ _ q.accepted).few)) }
 
 pub write-requires : goal.write-requires
-write-requires c = let n = c in record { table = n.requires; kept = n.count-bits.ensures.1; bits_are = n.count-bits.ensures.0 }
+write-requires c = record { table = c.requires; kept = c.count-bits.ensures.1; bits_are = c.count-bits.ensures.0 }

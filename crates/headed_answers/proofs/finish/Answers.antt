@@ -9,14 +9,6 @@ use Rattle.table.specs.declared.answer.Answer.TheVariants.{Made}
 use Rattle.table.specs.Header.{header_of, body}
 use Rattle.headed_answers.proofs.finish.Goals as goal
 
--- the words stand after the first one
-module _ (c : goal.Else-n-eq0) where
-  abbrev start : goal.Start
-  start = c
-
-  inside : start.args.n < length start.args.res.now
-  inside = start.pre.within c.if-n-eq0.false
-
 same-words : (n : ℕ) (s : List ℕ) → take (n + 1 - 1) (body s) ≡ take n (body s)
 same-words n s = let e : n + 1 - 1 ≡ n = omega arith in ap (λ (k : ℕ). take k (body s)) e
 
@@ -28,25 +20,30 @@ pub returns-then-n-eq0 : goal.returns-then-n-eq0
 returns-then-n-eq0 c = record { none = λ z. (refl, c.words.ensures); some = λ z. absurd (z c.if-n-eq0.true) }
 
 pub overflow_add-end : goal.overflow_add-end
-overflow_add-end c = omega (arith, inside c)
+overflow_add-end c =
+    let inside : c.args.n < length c.args.res.now = c.requires.within c.if-n-eq0.false in
+    omega (arith, inside)
 
 pub slice_bounds-of-end : goal.slice_bounds-of-end
-slice_bounds-of-end c = omega (arith, inside c)
+slice_bounds-of-end c =
+    let inside : c.args.n < length c.args.res.now = c.requires.within c.if-n-eq0.false in
+    omega (arith, inside)
 
 pub of-requires : goal.of-requires
 of-requires c =
-    let tested = c in
-    rw (same-words (start tested).args.n (start tested).args.res.now) ((start tested).requires.words tested.if-n-eq0.false)
+    rw (same-words c.args.n c.args.res.now) (c.requires.words c.if-n-eq0.false)
 
 pub bounds-res-0 : goal.bounds-res-0
-bounds-res-0 c = omega (arith, inside c)
+bounds-res-0 c =
+    let inside : c.args.n < length c.args.res.now = c.requires.within c.if-n-eq0.false in
+    omega (arith, inside)
 
 pub returns : goal.returns
 returns c =
-    let tested = c in
-    let n = (start tested).args.n in
-    let s = (start tested).args.res.now in
+    let inside : c.args.n < length c.args.res.now = c.requires.within c.if-n-eq0.false in
+    let n = c.args.n in
+    let s = c.args.res.now in
     record {
-      none = λ z. absurd (tested.if-n-eq0.false z);
-      some = λ z. (ap Made (add-one n), put_first s c.of.result (omega (arith, inside tested)) ∙ ap (λ (w : ℕ). w ∷ body s) (c.of.ensures ∙ ap header_of (same-words n s)));
+      none = λ z. absurd (c.if-n-eq0.false z);
+      some = λ z. (ap Made (add-one n), put_first s c.of.result (omega (arith, inside)) ∙ ap (λ (w : ℕ). w ∷ body s) (c.of.ensures ∙ ap header_of (same-words n s)));
     }

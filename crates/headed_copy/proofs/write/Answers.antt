@@ -10,8 +10,7 @@ finish-requires c = record { within = λ z. absurd (z refl); words = λ z. absur
 
 pub returns-then-res-n : goal.returns-then-res-n
 returns-then-res-n c =
-    let tested = c in
-    given_short _ tested.args.res.now (omega (arith, tested.if-res-n.true)) c.finish.ensures
+    given_short _ c.args.res.now (omega (arith, c.if-res-n.true)) c.finish.ensures
 
 pub finish-requires-2 : goal.finish-requires-2
 finish-requires-2 c =

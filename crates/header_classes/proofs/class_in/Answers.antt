@@ -14,7 +14,7 @@ unfolding class_of
 returns-then-is_written c = rw (← c.is_written.ensures, c.if-is_written.true)
 
 pub fill-requires : goal.fill-requires
-fill-requires c = let start = c in (plain-words start.requires.0 (sym c.is_written.ensures ∙ c.if-is_written.false), start.requires.1)
+fill-requires c = (plain-words c.requires.0 (sym c.is_written.ensures ∙ c.if-is_written.false), c.requires.1)
 
 pub overflow_sub-result : goal.overflow_sub-result
 overflow_sub-result c = some c.requires.0
@@ -26,6 +26,4 @@ bounds-bytes-words c =
 
 pub returns : goal.returns
 returns c =
-    let start = c in
-    let told = c in
-    rw c.fill.ensures (last_byte start.requires.0 (sym told.is_written.ensures ∙ told.if-is_written.false) _)
+    rw c.fill.ensures (last_byte c.requires.0 (sym c.is_written.ensures ∙ c.if-is_written.false) _)

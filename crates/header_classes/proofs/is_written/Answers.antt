@@ -16,13 +16,11 @@ loop-i-init c = refl
 
 pub returns-then-kind-ge12 : goal.returns-then-kind-ge12
 returns-then-kind-ge12 c =
-    let at-loop = c in
-    sym (at-loop.loop-i.invariant ∙ written_step _ at-loop.loop-i.i (omega arith) ∙ rw (← c.kind.ensures, le-leb _ _ c.if-kind-ge12.true))
+    sym (c.loop-i.invariant ∙ written_step _ c.loop-i.i (omega arith) ∙ rw (← c.kind.ensures, le-leb _ _ c.if-kind-ge12.true))
 
 pub loop-i-preserved : goal.loop-i-preserved
 loop-i-preserved c =
-    let at-loop = c in
-    at-loop.loop-i.invariant ∙ written_step _ at-loop.loop-i.i (omega arith) ∙ rw (← c.kind.ensures, lt-leb _ _ c.if-kind-ge12.false)
+    c.loop-i.invariant ∙ written_step _ c.loop-i.i (omega arith) ∙ rw (← c.kind.ensures, lt-leb _ _ c.if-kind-ge12.false)
 
 pub returns : goal.returns
 returns c = sym (c.loop-i.invariant ∙ written_none _ _ c.loop-i-test.false)

@@ -14,7 +14,6 @@ bounds-index-0-2 c = simp length-set (omega arith)
 
 pub returns : goal.returns
 returns c =
-    let s = c in
     λ t i.
     rw (c.wide-n.ensures, c.bucket.ensures.0, i.count_at, add-one)
-    (indexed_more t s.args.index.now s.args.w i (omega (arith, s.requires.0, i.count_at)))
+    (indexed_more t c.args.index.now c.args.w i (omega (arith, c.requires.0, i.count_at)))

@@ -10,14 +10,18 @@ use Rattle.row_words.specs.Row.{pack_bits}
 use Rattle.letter_bits.proofs.Packed.{pack_none, pack_more, pack_room}
 use Rattle.letter_bits.proofs.one_by_one.Goals as goal
 
-small : (c : goal.In-loop-i) → c.loop-i.word < 2 ^ 63
-small c = rw c.loop-i.invariant.1 (pack_room _ _ _ 63 (omega arith))
-
 pub loop-i-init : goal.loop-i-init
 loop-i-init c = (omega arith, pack_none _ _ _ (omega arith))
 
 pub overflow_mul-word : goal.overflow_mul-word
-overflow_mul-word c = omega (arith, small c)
+overflow_mul-word c =
+    let small : c.loop-i.word < 2 ^ 63 = rw c.loop-i.invariant.1 (pack_room _ _ _ 63 (omega arith)) in
+    omega (arith, small)
+
+pub overflow_add-word : goal.overflow_add-word
+overflow_add-word c =
+    let small : c.loop-i.word < 2 ^ 63 = rw c.loop-i.invariant.1 (pack_room _ _ _ 63 (omega arith)) in
+    omega (arith, small)
 
 pub loop-i-preserved : goal.loop-i-preserved
 loop-i-preserved c =

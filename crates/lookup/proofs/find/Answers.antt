@@ -17,15 +17,13 @@ loop-n-init c =
 
 pub returns-then-words-n : goal.returns-then-words-n
 returns-then-words-n c =
-    let s = c in
     let n : ℕ = c.loop-n.n in
-    trail_found s.requires.1 _ n c.loop-n.invariant.1 (omega arith)
-    (get_or-take (count_of s.args.index.now) s.args.words.now (n - 1) 0 (omega arith) ∙ c.if-words-n.true)
+    trail_found c.requires.1 _ n c.loop-n.invariant.1 (omega arith)
+    (get_or-take (count_of c.args.index.now) c.args.words.now (n - 1) 0 (omega arith) ∙ c.if-words-n.true)
 
 pub loop-n-smaller : goal.loop-n-smaller
 loop-n-smaller c =
-    let s = c in
-    rw c.wide-n-in-loop-n.ensures (trail_falls s.requires.1 _ _ c.loop-n.invariant.1 (omega arith))
+    rw c.wide-n-in-loop-n.ensures (trail_falls c.requires.1 _ _ c.loop-n.invariant.1 (omega arith))
 
 pub loop-n-preserved : goal.loop-n-preserved
 loop-n-preserved c =

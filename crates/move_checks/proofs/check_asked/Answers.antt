@@ -7,10 +7,8 @@ use Rattle.move_checks.proofs.check_asked.Goals as goal
 
 pub returns-then-total-state : goal.returns-then-total-state
 returns-then-total-state c =
-    let start = c in
-    left_state start.args.words.now start.args.state start.args.driven (omega (arith, start.requires, c.if-total-state.true))
+    left_state c.args.words.now c.args.state c.args.driven (omega (arith, c.requires, c.if-total-state.true))
 
 pub returns : goal.returns
 returns c =
-    let start = c in
-    c.check_sample.ensures ∙ left_sample start.args.words.now start.args.state start.args.driven (omega (arith, start.requires, c.if-total-state.false))
+    c.check_sample.ensures ∙ left_sample c.args.words.now c.args.state c.args.driven (omega (arith, c.requires, c.if-total-state.false))

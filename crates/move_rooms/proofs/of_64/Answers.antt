@@ -7,10 +7,6 @@ use Rattle.number_rooms.proofs.Rooms.{zeros_long, still_long, asked_larger}
 use Rattle.move_rooms.proofs.Rooms.{room_for, to_number, moved}
 use Rattle.move_rooms.proofs.of_64.Goals as goal
 
--- said once: what compares the draft with its zeros costs by their number
-long : (c : goal.After-fill-root) → 455 ≡ length c.fill-root.new.1.1.1.1.1.1.1.0
-long c = still_long 455 c.fill-root.auto.1.1.1.1.1.1.1.0
-
 pub slice_bounds-fill-end : goal.slice_bounds-fill-end
 slice_bounds-fill-end c = zeros_long 455
 
@@ -18,20 +14,24 @@ pub fill-root-requires : goal.fill-root-requires
 fill-root-requires c = let q = c.requires in (q.0, room_for 64 455 q.1 (zeros_long 455) (omega arith) (omega arith))
 
 pub slice_bounds-of_514-end : goal.slice_bounds-of_514-end
-slice_bounds-of_514-end c = long c
+slice_bounds-of_514-end c =
+    let long : 455 ≡ length c.fill-root.new.1.1.1.1.1.1.1.0 = still_long 455 c.fill-root.auto.1.1.1.1.1.1.1.0 in
+    long
 
 pub of_514-requires : goal.of_514-requires
 of_514-requires c =
+    let long : 455 ≡ length c.fill-root.new.1.1.1.1.1.1.1.0 = still_long 455 c.fill-root.auto.1.1.1.1.1.1.1.0 in
     let filled = c in
     let start = filled in
     let a = start.args in
-    asked_larger (to_number 64 455 start.requires.1 (as_formula (written_at a.words.now a.state a.sample)) filled.fill-root.ensures.0 (long filled) (omega arith)) (omega arith)
+    asked_larger (to_number 64 455 start.requires.1 (as_formula (written_at a.words.now a.state a.sample)) filled.fill-root.ensures.0 (long) (omega arith)) (omega arith)
 
 pub shape_of-res : goal.shape_of-res
 shape_of-res c = c.of_514.auto.1.1.0
 
 pub returns : goal.returns
 returns c =
+    let long : 455 ≡ length c.fill-root.new.1.1.1.1.1.1.1.0 = still_long 455 c.fill-root.auto.1.1.1.1.1.1.1.0 in
     let filled = c in
     let q = filled.requires in
-    moved 64 455 q.1 q.0 filled.fill-root.ensures (long filled) (omega arith) c.of_514.ensures
+    moved 64 455 q.1 q.0 filled.fill-root.ensures (long) (omega arith) c.of_514.ensures

@@ -4,5 +4,4 @@ use Rattle.move_slots.proofs.junction.Goals as goal
 
 pub returns : goal.returns
 returns c =
-    let last = c in
-    rw (last.over-2.ensures, last.over.ensures) refl
+    rw (c.over-2.ensures, c.over.ensures) refl

@@ -4,5 +4,4 @@ use Rattle.move_slots.proofs.letter.Goals as goal
 
 pub returns : goal.returns
 returns c =
-    let last = c in
-    rw (last.by_class.ensures, last.pack-s.ensures, last.states.ensures) refl
+    rw (c.by_class.ensures, c.pack-s.ensures, c.states.ensures) refl

@@ -4,5 +4,4 @@ use Rattle.move_slots.proofs.states.Goals as goal
 
 pub returns : goal.returns
 returns c =
-    let last = c in
-    rw (last.by_class.ensures, last.pack-z.ensures, last.pack-y.ensures, last.pack-x.ensures) refl
+    rw (c.by_class.ensures, c.pack-z.ensures, c.pack-y.ensures, c.pack-x.ensures) refl

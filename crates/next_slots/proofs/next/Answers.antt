@@ -4,5 +4,4 @@ use Rattle.next_slots.proofs.next.Goals as goal
 
 pub returns : goal.returns
 returns c =
-    let last = c in
-    rw (last.operand.ensures, last.states.ensures) refl
+    rw (c.operand.ensures, c.states.ensures) refl

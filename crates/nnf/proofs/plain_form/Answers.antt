@@ -15,48 +15,43 @@ use Rattle.nnf.proofs.plain_form.Goals as goal
 abbrev start : goal.Else-not-permitted → goal.Start
 start c = c
 
-within : (c : goal.Else-not-permitted) → is_permitted (start c).args.limits ≡ true
-within c = limits_within (start c).args.limits _ c.permitted.ensures c.if-not-permitted.false
-
--- the table has passed the checks, and so has a word
-module _ (c : goal.In-Accepted) where
-  abbrev asked : goal.Else-not-permitted
-  asked = c
-
-  accepted : headed_checked false (start asked).args.limits.written (start asked).args.table.now ≡ Accepted
-  accepted = sym c.check.ensures ∙ c.enum_told-1.given.1
-
-  some : 1 ≤ length (start asked).args.table.now
-  some = some_word false (start asked).args.limits.written (start asked).args.table.now accepted
-
 pub returns-then-not-permitted : goal.returns-then-not-permitted
 returns-then-not-permitted c =
     let a = c.args in
-    let r = outside a.limits a.table.now a.result.now (limits_outside a.limits _ c.permitted.ensures c.if-not-permitted.true) in
+    let r = outside a.limits a.table.now a.res.now (limits_outside a.limits _ c.permitted.ensures c.if-not-permitted.true) in
     (r.reply, r.slice)
 
 pub slice_bounds-answer-count : goal.slice_bounds-answer-count
-slice_bounds-answer-count c = some c
+slice_bounds-answer-count c =
+    let accepted : headed_checked false (start c).args.limits.written (start c).args.table.now ≡ Accepted = sym c.check.ensures ∙ c.enum_told-1.given.1 in
+    let some : 1 ≤ length (start c).args.table.now = some_word false (start c).args.limits.written (start c).args.table.now accepted in
+    some
 
 pub slice_bounds-answer-start : goal.slice_bounds-answer-start
-slice_bounds-answer-start c = some c
+slice_bounds-answer-start c =
+    let accepted : headed_checked false (start c).args.limits.written (start c).args.table.now ≡ Accepted = sym c.check.ensures ∙ c.enum_told-1.given.1 in
+    let some : 1 ≤ length (start c).args.table.now = some_word false (start c).args.limits.written (start c).args.table.now accepted in
+    some
 
 pub answer-requires : goal.answer-requires
 answer-requires c =
-    let told = c in
-    let a = (start (asked told)).args in
-    rw (whole_body a.table.now) (formable a.limits a.table.now a.result.now (within (asked told)) (accepted told))
+    let within : is_permitted (start c).args.limits ≡ true = limits_within (start c).args.limits _ c.permitted.ensures c.if-not-permitted.false in
+    let accepted : headed_checked false (start c).args.limits.written (start c).args.table.now ≡ Accepted = sym c.check.ensures ∙ c.enum_told-1.given.1 in
+    let a = (start c).args in
+    rw (whole_body a.table.now) (formable a.limits a.table.now a.res.now (within c) (accepted))
 
 pub returns-in-Refused : goal.returns-in-Refused
 returns-in-Refused c =
+    let within : is_permitted (start c).args.limits ≡ true = limits_within (start c).args.limits _ c.permitted.ensures c.if-not-permitted.false in
     let checked = c in
     let a = (start checked).args in
-    let r = refused a.limits a.table.now a.result.now (within checked) c.r-1.given.0.0 (sym checked.check.ensures ∙ c.r-1.given.1) in
+    let r = refused a.limits a.table.now a.res.now (within) c.r-1.given.0.0 (sym checked.check.ensures ∙ c.r-1.given.1) in
     (r.reply, r.slice)
 
 pub returns-in-Accepted : goal.returns-in-Accepted
 returns-in-Accepted c =
-    let told = c in
-    let a = (start (asked told)).args in
-    let r = given a.limits a.table.now a.result.now (within (asked told)) (accepted told) (rw (whole_body a.table.now) at c.answer.ensures) in
+    let within : is_permitted (start c).args.limits ≡ true = limits_within (start c).args.limits _ c.permitted.ensures c.if-not-permitted.false in
+    let accepted : headed_checked false (start c).args.limits.written (start c).args.table.now ≡ Accepted = sym c.check.ensures ∙ c.enum_told-1.given.1 in
+    let a = (start c).args in
+    let r = given a.limits a.table.now a.res.now (within c) (accepted) (rw (whole_body a.table.now) at c.answer.ensures) in
     (r.reply, r.slice)

@@ -14,12 +14,6 @@ use Rattle.parsing.proofs.parse.Goals as goal
 abbrev start : goal.At-loop-i → goal.Start
 start c = c
 
-room : (c : goal.At-loop-i) → Room c.loop-i.stack (state c.loop-i.out c.loop-i.index) c.loop-i.r.depth 1
-room c =
-    let inv = c.loop-i.invariant in
-    let pre = (start c).requires in
-    going_room _ _ c.loop-i.r _ _ inv.4 (inv.0 ∙ pre.long) (inv.1 ∙ pre.wide) inv.6 (omega (arith, inv.3, pre.short))
-
 pub loop-i-init : goal.loop-i-init
 loop-i-init c =
     let pre = c.requires in
@@ -27,8 +21,10 @@ loop-i-init c =
 
 pub step-r-requires : goal.step-r-requires
 step-r-requires c =
-    let at-loop = c in
-    (room at-loop, at-loop.loop-i.invariant.5)
+    let room : Room c.loop-i.stack (state c.loop-i.out c.loop-i.index) c.loop-i.r.depth 1 = let inv = c.loop-i.invariant in
+    let pre = (start c).requires in
+    going_room _ _ c.loop-i.r _ _ inv.4 (inv.0 ∙ pre.long) (inv.1 ∙ pre.wide) inv.6 (omega (arith, inv.3, pre.short)) in
+    (room c, c.loop-i.invariant.5)
 
 pub is_stuck-requires : goal.is_stuck-requires
 is_stuck-requires c = search rules
@@ -57,8 +53,10 @@ loop-i-preserved c =
 
 pub step-q-requires : goal.step-q-requires
 step-q-requires c =
-    let at-loop = c in
-    (room at-loop, at-loop.loop-i.invariant.5)
+    let room : Room c.loop-i.stack (state c.loop-i.out c.loop-i.index) c.loop-i.r.depth 1 = let inv = c.loop-i.invariant in
+    let pre = (start c).requires in
+    going_room _ _ c.loop-i.r _ _ inv.4 (inv.0 ∙ pre.long) (inv.1 ∙ pre.wide) inv.6 (omega (arith, inv.3, pre.short)) in
+    (room c, c.loop-i.invariant.5)
 
 pub returns-then-depth-ne0 : goal.returns-then-depth-ne0
 returns-then-depth-ne0 c =

@@ -28,10 +28,10 @@ module _ (p : goal.After-part-root) where
   counted = p.if-choice-ones.left
 
   as_long : length folded ≡ length start.args.draft.now
-  as_long = p.part-root.kept.1.1.1.1.0 ∙ start.pre.0.ready.long
+  as_long = p.part-root.kept.1.1.1.1.0 ∙ start.requires.0.ready.long
 
   few : length folded ≤ 2 ^ 20
-  few = omega (arith, as_long, start.pre.0.ready.fillable.room.narrow)
+  few = omega (arith, as_long, start.requires.0.ready.fillable.room.narrow)
 
   within : p.part-root.result < length folded
   within = drafted_within folded (folded_part t choice) p.part-root.result p.part-root.ensures.0
@@ -54,23 +54,21 @@ bounds-folded-root c = within c
 
 pub returns-then-kind-eq-FALSE : goal.returns-then-kind-eq-FALSE
 returns-then-kind-eq-FALSE c =
-    let p = c in
-    let pre = (start p).requires in (
-      part_false (t p) (choice p) _ (counted p) pre.0.numbered pre.1.1
-          (root_false (t p) (folded p) (choice p) p.part-root.result p.part-root.ensures.0 (few p) (sym c.kind.ensures ∙ c.if-kind-eq-FALSE.true)),
-      p.part-root.ensures.1,
+    let pre = (start c).requires in (
+      part_false (t c) (choice c) _ (counted c) pre.0.numbered pre.1.1
+          (root_false (t c) (folded c) (choice c) c.part-root.result c.part-root.ensures.0 (few c) (sym c.kind.ensures ∙ c.if-kind-eq-FALSE.true)),
+      c.part-root.ensures.1,
     )
 
 pub join-requires : goal.join-requires
 join-requires c =
-    let p = c in
-    let pre = (start p).requires in (
+    let pre = (start c).requires in (
       record {
-        formula = folded_part (t p) (choice p);
-        drafted = p.part-root.ensures.0;
-        few = few p;
-        numbers_long = omega (arith, as_long p, pre.0.numbers_long);
-        stack_long = omega (arith, as_long p, pre.0.stack_long);
+        formula = folded_part (t c) (choice c);
+        drafted = c.part-root.ensures.0;
+        few = few c;
+        numbers_long = omega (arith, as_long c, pre.0.numbers_long);
+        stack_long = omega (arith, as_long c, pre.0.stack_long);
         numbered = pre.0.numbered;
       },
       pre.1.1,

@@ -4,8 +4,7 @@ use Rattle.parts.proofs.number.Goals as goal
 
 pub number-requires : goal.number-requires
 number-requires c =
-    let start = c in
-    (start.requires.numbered, numberable start.requires c.numbers.ensures)
+    (c.requires.numbered, numberable c.requires c.numbers.ensures)
 
 pub returns : goal.returns
 returns c φ r = c.number.ensures.placed φ r

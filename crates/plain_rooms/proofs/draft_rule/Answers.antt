@@ -5,8 +5,7 @@ use Rattle.plain_rooms.proofs.draft_rule.Goals as goal
 
 pub wanted-requires : goal.wanted-requires
 wanted-requires c =
-    let first = c in
-    started first.requires first.store.ensures c.store-2.ensures
+    started c.requires c.store.ensures c.store-2.ensures
 
 pub returns : goal.returns
 unfolding rule

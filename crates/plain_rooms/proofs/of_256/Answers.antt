@@ -15,13 +15,11 @@ slice_bounds-of_514-end c = still_long 514 c.draft_rule-root.auto.1.0
 
 pub of_514-requires : goal.of_514-requires
 of_514-requires c =
-    let drafted = c in
-    to_number 256 514 drafted.requires drafted.draft_rule-root.ensures (omega arith) drafted.draft_rule-root.auto.1.0
+    to_number 256 514 c.requires c.draft_rule-root.ensures (omega arith) c.draft_rule-root.auto.1.0
 
 pub shape_of-res : goal.shape_of-res
 shape_of-res c = c.of_514.auto.1.1.0
 
 pub returns : goal.returns
 returns c =
-    let drafted = c in
-    form-written 256 514 drafted.requires drafted.draft_rule-root.ensures c.of_514.ensures
+    form-written 256 514 c.requires c.draft_rule-root.ensures c.of_514.ensures

@@ -15,13 +15,11 @@ slice_bounds-of_195-end c = still_long 130 c.draft_rule-root.auto.1.0
 
 pub of_195-requires : goal.of_195-requires
 of_195-requires c =
-    let drafted = c in
-    asked_larger (to_number 64 130 drafted.requires drafted.draft_rule-root.ensures (omega arith) drafted.draft_rule-root.auto.1.0) (omega arith)
+    asked_larger (to_number 64 130 c.requires c.draft_rule-root.ensures (omega arith) c.draft_rule-root.auto.1.0) (omega arith)
 
 pub shape_of-res : goal.shape_of-res
 shape_of-res c = c.of_195.auto.1.1.0
 
 pub returns : goal.returns
 returns c =
-    let drafted = c in
-    form-written 64 130 drafted.requires drafted.draft_rule-root.ensures c.of_195.ensures
+    form-written 64 130 c.requires c.draft_rule-root.ensures c.of_195.ensures

@@ -3,12 +3,11 @@ use Rattle.rewritten_form.proofs.Ends.{past_refused, all_passed, given_made, giv
 use Rattle.rewritten_form.proofs.rewrite.Goals as goal
 
 pub returns-then-past-gt0 : goal.returns-then-past-gt0
-returns-then-past-gt0 c = let start = c in past_refused start.requires start.args.res.now c.past-past.ensures c.if-past-gt0.true
+returns-then-past-gt0 c = past_refused c.requires c.args.res.now c.past-past.ensures c.if-past-gt0.true
 
 pub answer-requires : goal.answer-requires
 answer-requires c =
-    let start = c in
-    all_passed start.requires start.args.res.now c.past-past.ensures c.if-past-gt0.false
+    all_passed c.requires c.args.res.now c.past-past.ensures c.if-past-gt0.false
 
 pub returns-in-Made : goal.returns-in-Made
 returns-in-Made c =

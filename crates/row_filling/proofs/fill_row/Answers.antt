@@ -9,23 +9,24 @@ use Rattle.table_rows.proofs.Parts.{part_small, part_end, part_for}
 use Rattle.row_filling.proofs.WordRow.{start_inside, standing, letter_in, row-filled}
 use Rattle.row_filling.proofs.fill_row.Goals as goal
 
--- the part's end is a small number
-small : (c : goal.After-row_words-words) → c.args.j * c.row_words-words.result + c.row_words-words.result ≤ 1048576
-small c = part_small _ _ _ _ _ _ c.requires.0.0 c.requires.0.1 c.row_words-words.ensures
-
 pub prepare-requires : goal.prepare-requires
 prepare-requires c =
-    let s = c in
-    (s.requires.1, standing _ _ _ _ _ _ s.requires.0.0 s.requires.0.1 c.row_words-words.ensures c.of_kind-op.result (c.of_kind-op.ensures ∙ ap (λ k. meaning (shape k)) c.kind.ensures) _ _ c.first_operand.ensures c.right-right.ensures)
+    (c.requires.1, standing _ _ _ _ _ _ c.requires.0.0 c.requires.0.1 c.row_words-words.ensures c.of_kind-op.result (c.of_kind-op.ensures ∙ ap (λ k. meaning (shape k)) c.kind.ensures) _ _ c.first_operand.ensures c.right-right.ensures)
 
 pub overflow_mul-from : goal.overflow_mul-from
-overflow_mul-from c = omega (arith, small c)
+overflow_mul-from c =
+    let small : c.args.j * c.row_words-words.result + c.row_words-words.result ≤ 1048576 = part_small _ _ _ _ _ _ c.requires.0.0 c.requires.0.1 c.row_words-words.ensures in
+    omega (arith, small)
 
 pub overflow_add-to : goal.overflow_add-to
-overflow_add-to c = omega (arith, small c)
+overflow_add-to c =
+    let small : c.args.j * c.row_words-words.result + c.row_words-words.result ≤ 1048576 = part_small _ _ _ _ _ _ c.requires.0.0 c.requires.0.1 c.row_words-words.ensures in
+    omega (arith, small)
 
 pub offset_bounds-scratch-from : goal.offset_bounds-scratch-from
-offset_bounds-scratch-from c = omega (arith, small c)
+offset_bounds-scratch-from c =
+    let small : c.args.j * c.row_words-words.result + c.row_words-words.result ≤ 1048576 = part_small _ _ _ _ _ _ c.requires.0.0 c.requires.0.1 c.row_words-words.ensures in
+    omega (arith, small)
 
 pub slice_bounds-write_word-end : goal.slice_bounds-write_word-end
 slice_bounds-write_word-end c = part_end _ _ _ _ _ _ c.requires.0.0 c.requires.0.1 c.row_words-words.ensures
@@ -34,7 +35,7 @@ pub write_word-requires : goal.write_word-requires
 write_word-requires c =
     let s = c in
     let part = part_for _ _ _ _ _ _ s.requires.0.0 s.requires.0.1 c.row_words-words.ensures in
-    let lengths = c.prepare.auto in (
+    let lengths = c.requirespare.auto in (
       part,
       (
         (lengths.1.1.1.1.1.0 ∙ s.requires.1.0.size ∙ sym part.size, lengths.1.1.1.1.1.1.0 ∙ s.requires.1.1.size ∙ sym part.size, start_inside _ _ _ _ _ _ s.requires.0.0 s.requires.0.1 c.row_words-words.ensures),
@@ -44,6 +45,5 @@ write_word-requires c =
 
 pub returns : goal.returns
 returns c =
-    let s = c in
-    row-filled _ _ _ _ _ _ s.requires.0.0 s.requires.0.1 c.row_words-words.ensures c.of_kind-op.result (c.of_kind-op.ensures ∙ ap (λ k. meaning (shape k)) c.kind.ensures) _ _ c.first_operand.ensures c.right-right.ensures c.prepare.new.1.1.1.1.1.0 c.prepare.new.1.1.1.1.1.1.0 _
-    c.prepare.ensures c.write_word.ensures
+    row-filled _ _ _ _ _ _ c.requires.0.0 c.requires.0.1 c.row_words-words.ensures c.of_kind-op.result (c.of_kind-op.ensures ∙ ap (λ k. meaning (shape k)) c.kind.ensures) _ _ c.first_operand.ensures c.right-right.ensures c.requirespare.new.1.1.1.1.1.0 c.requirespare.new.1.1.1.1.1.1.0 _
+    c.requirespare.ensures c.write_word.ensures

@@ -10,10 +10,6 @@ use Rattle.row_filling.proofs.WordRow.{rows_stand, rows_next, rows_all}
 use Rattle.table.specs.Table.{formulas}
 use Rattle.row_filling.proofs.fill_rows.Goals as goal
 
--- a row has at most the words of the arrays
-narrow : (c : goal.After-row_words-words) → c.row_words-words.result ≤ 64
-narrow c = omega (arith, c.row_words-words.ensures, c.requires.few)
-
 pub row_words-words-requires : goal.row_words-words-requires
 row_words-words-requires c = c.requires.few
 
@@ -21,22 +17,31 @@ pub loop-j-init : goal.loop-j-init
 loop-j-init c = (omega arith, refl, λ k few. rows_then_none _ _, refl, refl)
 
 pub slice_bounds-a-end : goal.slice_bounds-a-end
-slice_bounds-a-end c = omega (arith, narrow c)
+slice_bounds-a-end c =
+    let narrow : c.row_words-words.result ≤ 64 = omega (arith, c.row_words-words.ensures, c.requires.few) in
+    omega (arith, narrow)
 
 pub slice_bounds-fill_row-end : goal.slice_bounds-fill_row-end
-slice_bounds-fill_row-end c = simp length-take (omega (arith, narrow c))
+slice_bounds-fill_row-end c =
+    let narrow : c.row_words-words.result ≤ 64 = omega (arith, c.row_words-words.ensures, c.requires.few) in
+    simp length-take (omega (arith, narrow))
 
 pub slice_bounds-b-end : goal.slice_bounds-b-end
-slice_bounds-b-end c = omega (arith, narrow c)
+slice_bounds-b-end c =
+    let narrow : c.row_words-words.result ≤ 64 = omega (arith, c.row_words-words.ensures, c.requires.few) in
+    omega (arith, narrow)
 
 pub slice_bounds-fill_row-end-in-loop-j : goal.slice_bounds-fill_row-end-in-loop-j
-slice_bounds-fill_row-end-in-loop-j c = simp length-take (omega (arith, narrow c))
+slice_bounds-fill_row-end-in-loop-j c =
+    let narrow : c.row_words-words.result ≤ 64 = omega (arith, c.row_words-words.ensures, c.requires.few) in
+    simp length-take (omega (arith, narrow))
 
 pub fill_row-requires : goal.fill_row-requires
 fill_row-requires c =
+    let narrow : c.row_words-words.result ≤ 64 = omega (arith, c.row_words-words.ensures, c.requires.few) in
     let inv = c.loop-j.invariant in
     let facts = c.requires in
-    let few = narrow c in
+    let few = narrow in
     let wide = c.row_words-words.ensures in (
       (c.loop-j-test.true, fillable-length _ _ inv.1 facts),
       (

@@ -8,21 +8,23 @@ use lib.Count.{ones, ones-le}
 use Rattle.row_reading.proofs.Reading.{count_none, count_word, count_all}
 use Rattle.row_reading.proofs.count_held.Goals as goal
 
--- a word has at most 64 ones
-few : (c : goal.After-shared_slice_known-1) → ones (get_or c.args.row.now c.loop-w.w 0) ≤ 64
-few c = ones-le 64 _ (c.shared_slice_known-1.given c.loop-w.w).fits
-
 pub loop-w-init : goal.loop-w-init
 loop-w-init c = (omega arith, omega arith, λ L f e. count_none L f)
 
 pub overflow_cast-held : goal.overflow_cast-held
-overflow_cast-held c = omega (arith, few c)
+overflow_cast-held c =
+    let few : ones (get_or c.args.row.now c.loop-w.w 0) ≤ 64 = ones-le 64 _ (c.shared_slice_known-1.given c.loop-w.w).fits in
+    omega (arith, few)
 
 pub overflow_add-held : goal.overflow_add-held
-overflow_add-held c = omega (arith, few c)
+overflow_add-held c =
+    let few : ones (get_or c.args.row.now c.loop-w.w 0) ≤ 64 = ones-le 64 _ (c.shared_slice_known-1.given c.loop-w.w).fits in
+    omega (arith, few)
 
 pub loop-w-preserved : goal.loop-w-preserved
-loop-w-preserved c = (omega arith, omega (arith, few c), λ L f e. count_word L f _ _ _ e (omega arith) (c.loop-w.invariant.2 L f e))
+loop-w-preserved c =
+    let few : ones (get_or c.args.row.now c.loop-w.w 0) ≤ 64 = ones-le 64 _ (c.shared_slice_known-1.given c.loop-w.w).fits in
+    (omega arith, omega (arith, few), λ L f e. count_word L f _ _ _ e (omega arith) (c.loop-w.invariant.2 L f e))
 
 pub returns : goal.returns
 returns c L f e = let l = c.loop-w in l.invariant.2 L f e ∙ count_all L f _ _ e (omega arith)

@@ -33,15 +33,13 @@ overflow_add-result c = sum_fits _ _ (omega arith)
 
 pub returns-then-failing-ne0 : goal.returns-then-failing-ne0
 returns-then-failing-ne0 c f e =
-    let l = c in
-    sym (l.loop-w.invariant.1 f e ∙ word-fails _ f _ l.loop-w.w _ _ e (omega arith) c.filled.ensures c.ones.ensures c.if-failing-ne0.true)
+    sym (c.loop-w.invariant.1 f e ∙ word-fails _ f _ c.loop-w.w _ _ e (omega arith) c.filled.ensures c.ones.ensures c.if-failing-ne0.true)
 
 pub loop-w-preserved : goal.loop-w-preserved
 loop-w-preserved c = (
   omega arith,
   λ f e.
-      let l = c in
-      l.loop-w.invariant.1 f e ∙ word_holds _ f _ l.loop-w.w _ _ e (omega arith) c.filled.ensures c.ones.ensures c.if-failing-ne0.false,
+      c.loop-w.invariant.1 f e ∙ word_holds _ f _ c.loop-w.w _ _ e (omega arith) c.filled.ensures c.ones.ensures c.if-failing-ne0.false,
 )
 
 pub returns : goal.returns

@@ -11,28 +11,25 @@ use Rattle.judging.specs.Judging.{row_outcome, scratch_after}
 use Rattle.judging.proofs.Accepted.{accepted-facts, accepted-fillable, accepted-words}
 use Rattle.rule_rows.proofs.fill.Goals as goal
 
-module _ (c : goal.In-Accepted) where
-  abbrev start : goal.Start
-  start = c
-
-  abbrev t : List ℕ
-  t = start.args.table.now
-
-  told : row_outcome t start.args.samples.now start.args.start start.args.driven start.args.scratch.now ≡ Accepted
-  unfolding row_outcome
-  told = sym c.check_row.ensures ∙ c.enum_told-1.given.1
-
-  some : 2 ≤ length t
-  some = accepted-words _ _ _ _ _ told
-
 pub slice_bounds-fill_rows-count : goal.slice_bounds-fill_rows-count
-slice_bounds-fill_rows-count c = omega (arith, some c)
+slice_bounds-fill_rows-count c =
+    let t : List ℕ = c.args.table.now in
+    let told : row_outcome t c.args.samples.now c.args.start c.args.driven c.args.scratch.now ≡ Accepted = sym c.check_row.ensures ∙ c.enum_told-1.given.1 in
+    let some : 2 ≤ length t = accepted-words _ _ _ _ _ told in
+    omega (arith, some)
 
 pub slice_bounds-fill_rows-start : goal.slice_bounds-fill_rows-start
-slice_bounds-fill_rows-start c = omega (arith, some c)
+slice_bounds-fill_rows-start c =
+    let t : List ℕ = c.args.table.now in
+    let told : row_outcome t c.args.samples.now c.args.start c.args.driven c.args.scratch.now ≡ Accepted = sym c.check_row.ensures ∙ c.enum_told-1.given.1 in
+    let some : 2 ≤ length t = accepted-words _ _ _ _ _ told in
+    omega (arith, some)
 
 pub fill_rows-requires : goal.fill_rows-requires
-fill_rows-requires c = let e = c in rw (whole_body (t e)) (accepted-fillable _ _ _ _ _ (told e))
+fill_rows-requires c =
+    let t : List ℕ = c.args.table.now in
+    let told : row_outcome t c.args.samples.now c.args.start c.args.driven c.args.scratch.now ≡ Accepted = sym c.check_row.ensures ∙ c.enum_told-1.given.1 in
+    rw (whole_body (t)) (accepted-fillable _ _ _ _ _ (told))
 
 pub returns-in-Refused : goal.returns-in-Refused
 unfolding row_outcome scratch_after
@@ -41,5 +38,6 @@ returns-in-Refused c = (sym c.why-1.given.1 ∙ c.check_row.ensures, refl)
 pub returns-in-Accepted : goal.returns-in-Accepted
 unfolding scratch_after
 returns-in-Accepted c =
-    let e = c in
-    (sym (told e), rw (whole_body (t e)) at (c.fill_rows.ensures _ (accepted-facts _ _ _ _ _ (told e)).few_driven))
+    let t : List ℕ = c.args.table.now in
+    let told : row_outcome t c.args.samples.now c.args.start c.args.driven c.args.scratch.now ≡ Accepted = sym c.check_row.ensures ∙ c.enum_told-1.given.1 in
+    (sym (told), rw (whole_body (t)) at (c.fill_rows.ensures _ (accepted-facts _ _ _ _ _ (told)).few_driven))

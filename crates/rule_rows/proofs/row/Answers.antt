@@ -16,43 +16,50 @@ use Rattle.refusals.specs.Refusals.{outcome_report, outcome_number, outcome_plac
 use Rattle.refusals.specs.declared.Outcome.TheVariants.{Accepted}
 use Rattle.rule_rows.proofs.row.Goals as goal
 
--- the checks accept, before the rows are written and after it
-module _ (c : goal.In-Accepted) where
-  abbrev start : goal.Start
-  start = c
-
-  abbrev t : List ℕ
-  t = start.args.table.now
-
-  accepted : row_outcome t start.args.samples.now start.args.start start.args.driven start.args.scratch.now ≡ Accepted
-  accepted = sym c.fill.ensures.0 ∙ c.enum_told-1.given.1
-
-  fillable : Fillable (body t) start.args.samples.now start.args.start start.args.scratch.now
-  fillable = accepted-fillable _ _ _ _ _ accepted
-
-  still-fillable : Fillable (body t) start.args.samples.now start.args.start c.fill.new.1.1.1.1.0
-  still-fillable = fillable-length _ _ c.fill.auto.1.1.1.1.0 fillable
-
-small : (c : goal.After-row_words-words) → (length (t c) - 2) * c.row_words-words.result + c.row_words-words.result ≤ 1048576
-small c = last_small _ _ _ _ _ _ (fillable c) (words_before (t c)) c.row_words-words.ensures
-
 pub row_words-words-requires : goal.row_words-words-requires
-row_words-words-requires c = (fillable c).few
+row_words-words-requires c =
+    let t : List ℕ = c.args.table.now in
+    let accepted : row_outcome t c.args.samples.now c.args.start c.args.driven c.args.scratch.now ≡ Accepted = sym c.fill.ensures.0 ∙ c.enum_told-1.given.1 in
+    let fillable : Fillable (body t) c.args.samples.now c.args.start c.args.scratch.now = accepted-fillable _ _ _ _ _ accepted in
+    (fillable).few
 
 pub overflow_sub-from : goal.overflow_sub-from
-overflow_sub-from c = omega (arith, accepted-words _ _ _ _ _ (accepted c))
+overflow_sub-from c =
+    let t : List ℕ = c.args.table.now in
+    let accepted : row_outcome t c.args.samples.now c.args.start c.args.driven c.args.scratch.now ≡ Accepted = sym c.fill.ensures.0 ∙ c.enum_told-1.given.1 in
+    omega (arith, accepted-words _ _ _ _ _ (accepted))
 
 pub overflow_mul-from : goal.overflow_mul-from
-overflow_mul-from c = omega (arith, small c)
+overflow_mul-from c =
+    let t : List ℕ = c.args.table.now in
+    let accepted : row_outcome t c.args.samples.now c.args.start c.args.driven c.args.scratch.now ≡ Accepted = sym c.fill.ensures.0 ∙ c.enum_told-1.given.1 in
+    let fillable : Fillable (body t) c.args.samples.now c.args.start c.args.scratch.now = accepted-fillable _ _ _ _ _ accepted in
+    let small : (length (t) - 2) * c.row_words-words.result + c.row_words-words.result ≤ 1048576 = last_small _ _ _ _ _ _ (fillable) (words_before (t)) c.row_words-words.ensures in
+    omega (arith, small)
 
 pub overflow_add-to : goal.overflow_add-to
-overflow_add-to c = omega (arith, small c)
+overflow_add-to c =
+    let t : List ℕ = c.args.table.now in
+    let accepted : row_outcome t c.args.samples.now c.args.start c.args.driven c.args.scratch.now ≡ Accepted = sym c.fill.ensures.0 ∙ c.enum_told-1.given.1 in
+    let fillable : Fillable (body t) c.args.samples.now c.args.start c.args.scratch.now = accepted-fillable _ _ _ _ _ accepted in
+    let small : (length (t) - 2) * c.row_words-words.result + c.row_words-words.result ≤ 1048576 = last_small _ _ _ _ _ _ (fillable) (words_before (t)) c.row_words-words.ensures in
+    omega (arith, small)
 
 pub offset_bounds-scratch-from : goal.offset_bounds-scratch-from
-offset_bounds-scratch-from c = omega (arith, small c)
+offset_bounds-scratch-from c =
+    let t : List ℕ = c.args.table.now in
+    let accepted : row_outcome t c.args.samples.now c.args.start c.args.driven c.args.scratch.now ≡ Accepted = sym c.fill.ensures.0 ∙ c.enum_told-1.given.1 in
+    let fillable : Fillable (body t) c.args.samples.now c.args.start c.args.scratch.now = accepted-fillable _ _ _ _ _ accepted in
+    let small : (length (t) - 2) * c.row_words-words.result + c.row_words-words.result ≤ 1048576 = last_small _ _ _ _ _ _ (fillable) (words_before (t)) c.row_words-words.ensures in
+    omega (arith, small)
 
 pub slice_bounds-scratch-end-in-Accepted : goal.slice_bounds-scratch-end-in-Accepted
-slice_bounds-scratch-end-in-Accepted c = last_end _ _ _ _ _ _ (still-fillable c) (words_before (t c)) c.row_words-words.ensures
+slice_bounds-scratch-end-in-Accepted c =
+    let t : List ℕ = c.args.table.now in
+    let accepted : row_outcome t c.args.samples.now c.args.start c.args.driven c.args.scratch.now ≡ Accepted = sym c.fill.ensures.0 ∙ c.enum_told-1.given.1 in
+    let fillable : Fillable (body t) c.args.samples.now c.args.start c.args.scratch.now = accepted-fillable _ _ _ _ _ accepted in
+    let still-fillable : Fillable (body t) c.args.samples.now c.args.start c.fill.new.1.1.1.1.0 = fillable-length _ _ c.fill.auto.1.1.1.1.0 fillable in
+    last_end _ _ _ _ _ _ (still-fillable) (words_before (t)) c.row_words-words.ensures
 
 pub returns-in-Refused : goal.returns-in-Refused
 returns-in-Refused c =
@@ -62,8 +69,12 @@ returns-in-Refused c =
 
 pub returns-in-Accepted : goal.returns-in-Accepted
 returns-in-Accepted c =
-    let told = accepted c in
+    let t : List ℕ = c.args.table.now in
+    let accepted : row_outcome t c.args.samples.now c.args.start c.args.driven c.args.scratch.now ≡ Accepted = sym c.fill.ensures.0 ∙ c.enum_told-1.given.1 in
+    let fillable : Fillable (body t) c.args.samples.now c.args.start c.args.scratch.now = accepted-fillable _ _ _ _ _ accepted in
+    let still-fillable : Fillable (body t) c.args.samples.now c.args.start c.fill.new.1.1.1.1.0 = fillable-length _ _ c.fill.auto.1.1.1.1.0 fillable in
+    let told = accepted in
     let rows = c.fill.ensures.1 ∙ sym (accepted-scratch _ _ _ _ _ c.enum_told-1.given.1) in (
-      last_row_lem _ _ _ _ _ _ (still-fillable c) (words_before (t c)) c.row_words-words.ensures _ (accepted-facts _ _ _ _ _ told).few_driven _ rows ∙ accepted_part _ _ _ _ told,
+      last_row_lem _ _ _ _ _ _ (still-fillable) (words_before (t)) c.row_words-words.ensures _ (accepted-facts _ _ _ _ _ told).few_driven _ rows ∙ accepted_part _ _ _ _ told,
       (accepted_at _ _ _ told c.row_words-words.ensures, (ap outcome_number (sym told), ap outcome_place (sym told))),
     )

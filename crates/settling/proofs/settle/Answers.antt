@@ -16,12 +16,11 @@ pub loop-top-init : goal.loop-top-init
 loop-top-init c = let pre = c.requires in (refl, refl, settling_none _ _ _ _ pre.0 pre.1)
 
 pub bounds-stack-top : goal.bounds-stack-top
-bounds-stack-top c = let at-loop = c in omega (arith, (start at-loop).requires.0.long, (start at-loop).requires.0.room, at-loop.loop-top.invariant.2.shallow)
+bounds-stack-top c = omega (arith, (start c).requires.0.long, (start c).requires.0.room, c.loop-top.invariant.2.shallow)
 
 pub returns-then-not-is_prefix : goal.returns-then-not-is_prefix
 returns-then-not-is_prefix c =
-    let at-loop = c in
-    settling_stop _ _ _ _ _ _ _ at-loop.loop-top.invariant.2 c.loop-top-test.true _ c.kind-kind.ensures
+    settling_stop _ _ _ _ _ _ _ c.loop-top.invariant.2 c.loop-top-test.true _ c.kind-kind.ensures
     (sym (not-true _ c.if-not-is_prefix.true) ∙ c.is_prefix.ensures)
 
 pub pack-requires : goal.pack-requires

@@ -20,16 +20,14 @@ told c x e = ap (makes c) e
 
 pub pack-requires : goal.pack-requires
 pack-requires c =
-    let at_sign = c in
-    (subst Kinded at_sign.sign-1.given.1 at_sign.requires.1, omega arith, omega arith)
+    (subst Kinded c.sign-1.given.1 c.requires.1, omega arith, omega arith)
 
 pub end-o-requires : goal.end-o-requires
 end-o-requires c = search rules
 
 pub pack-requires-in-Prefix : goal.pack-requires-in-Prefix
 pack-requires-in-Prefix c =
-    let at_sign = c in
-    (subst Kinded at_sign.sign-in-Prefix-1.given.1 at_sign.requires.1, omega arith, omega arith)
+    (subst Kinded c.sign-in-Prefix-1.given.1 c.requires.1, omega arith, omega arith)
 
 pub push-requires : goal.push-requires
 push-requires c = search rules
@@ -49,8 +47,7 @@ stuck-requires-in-Unknown c = search rules
 pub returns-in-Blank : goal.returns-in-Blank
 unfolding begin_words
 returns-in-Blank c =
-    let at-start = c in
-    record { numbered = at-start.requires.0.numbered; fit = tt; same = sym (told at-start Blank c.enum_told-1.given.1) }
+    record { numbered = c.requires.0.numbered; fit = tt; same = sym (told c Blank c.enum_told-1.given.1) }
 
 pub returns-in-Constant : goal.returns-in-Constant
 unfolding begin_words
@@ -63,8 +60,7 @@ returns-in-Constant c =
 pub returns-in-Letter : goal.returns-in-Letter
 unfolding begin_words
 returns-in-Letter c =
-    let at-start = c in
-    record { numbered = at-start.requires.0.numbered; fit = omega arith; same = sym (told at-start Letter c.enum_told-in-Letter-1.given.1) }
+    record { numbered = c.requires.0.numbered; fit = omega arith; same = sym (told c Letter c.enum_told-in-Letter-1.given.1) }
 
 pub returns-in-Prefix : goal.returns-in-Prefix
 unfolding begin_words
@@ -77,8 +73,7 @@ returns-in-Prefix c =
 pub returns-in-Operator : goal.returns-in-Operator
 unfolding begin_words
 returns-in-Operator c =
-    let at-start = c in
-    stuck-makes _ _ _ at-start.requires.0.numbered c.stuck.ensures (told at-start _ c.enum_told-in-Operator-1.given.1)
+    stuck-makes _ _ _ c.requires.0.numbered c.stuck.ensures (told c _ c.enum_told-in-Operator-1.given.1)
 
 pub returns-in-Open : goal.returns-in-Open
 unfolding begin_words
@@ -91,11 +86,9 @@ returns-in-Open c =
 pub returns-in-Close : goal.returns-in-Close
 unfolding begin_words
 returns-in-Close c =
-    let at-start = c in
-    stuck-makes _ _ _ at-start.requires.0.numbered c.stuck-in-Close.ensures (told at-start _ c.enum_told-in-Close-1.given.1)
+    stuck-makes _ _ _ c.requires.0.numbered c.stuck-in-Close.ensures (told c _ c.enum_told-in-Close-1.given.1)
 
 pub returns-in-Unknown : goal.returns-in-Unknown
 unfolding begin_words
 returns-in-Unknown c =
-    let at-start = c in
-    stuck-makes _ _ _ at-start.requires.0.numbered c.stuck-in-Unknown.ensures (told at-start _ c.enum_told-in-Unknown-1.given.1)
+    stuck-makes _ _ _ c.requires.0.numbered c.stuck-in-Unknown.ensures (told c _ c.enum_told-in-Unknown-1.given.1)

@@ -45,26 +45,22 @@ stuck-requires-in-Unknown c = search rules
 pub returns-in-Blank : goal.returns-in-Blank
 unfolding follow_words
 returns-in-Blank c =
-    let at-start = c in
-    record { numbered = at-start.requires.0.numbered; fit = at-start.requires.1.1; same = sym (told at-start Blank c.enum_told-1.given.1) }
+    record { numbered = c.requires.0.numbered; fit = c.requires.1.1; same = sym (told c Blank c.enum_told-1.given.1) }
 
 pub returns-in-Constant : goal.returns-in-Constant
 unfolding follow_words
 returns-in-Constant c =
-    let at-start = c in
-    stuck-makes _ _ _ at-start.requires.0.numbered c.stuck.ensures (told at-start _ c.enum_told-in-Constant-1.given.1)
+    stuck-makes _ _ _ c.requires.0.numbered c.stuck.ensures (told c _ c.enum_told-in-Constant-1.given.1)
 
 pub returns-in-Letter : goal.returns-in-Letter
 unfolding follow_words
 returns-in-Letter c =
-    let at-start = c in
-    stuck-makes _ _ _ at-start.requires.0.numbered c.stuck-in-Letter.ensures (told at-start _ c.enum_told-in-Letter-1.given.1)
+    stuck-makes _ _ _ c.requires.0.numbered c.stuck-in-Letter.ensures (told c _ c.enum_told-in-Letter-1.given.1)
 
 pub returns-in-Prefix : goal.returns-in-Prefix
 unfolding follow_words
 returns-in-Prefix c =
-    let at-start = c in
-    stuck-makes _ _ _ at-start.requires.0.numbered c.stuck-in-Prefix.ensures (told at-start _ c.enum_told-in-Prefix-1.given.1)
+    stuck-makes _ _ _ c.requires.0.numbered c.stuck-in-Prefix.ensures (told c _ c.enum_told-in-Prefix-1.given.1)
 
 pub returns-in-Operator : goal.returns-in-Operator
 unfolding follow_words
@@ -77,8 +73,7 @@ returns-in-Operator c =
 pub returns-in-Open : goal.returns-in-Open
 unfolding follow_words
 returns-in-Open c =
-    let at-start = c in
-    stuck-makes _ _ _ at-start.requires.0.numbered c.stuck-in-Open.ensures (told at-start _ c.enum_told-in-Open-1.given.1)
+    stuck-makes _ _ _ c.requires.0.numbered c.stuck-in-Open.ensures (told c _ c.enum_told-in-Open-1.given.1)
 
 pub returns-in-Close : goal.returns-in-Close
 unfolding follow_words
@@ -92,5 +87,4 @@ returns-in-Close c =
 pub returns-in-Unknown : goal.returns-in-Unknown
 unfolding follow_words
 returns-in-Unknown c =
-    let at-start = c in
-    stuck-makes _ _ _ at-start.requires.0.numbered c.stuck-in-Unknown.ensures (told at-start _ c.enum_told-in-Unknown-1.given.1)
+    stuck-makes _ _ _ c.requires.0.numbered c.stuck-in-Unknown.ensures (told c _ c.enum_told-in-Unknown-1.given.1)

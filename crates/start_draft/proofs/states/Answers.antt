@@ -4,5 +4,4 @@ use Rattle.start_draft.proofs.states.Goals as goal
 
 pub returns : goal.returns
 returns c =
-    let last = c in
-    rw (last.put.ensures, last.pack-y.ensures, last.pack-x.ensures) refl
+    rw (c.put.ensures, c.pack-y.ensures, c.pack-x.ensures) refl

@@ -4,11 +4,6 @@ use borrow.Author.Rules.{rules}
 use Rattle.state_numbers.proofs.Counting.{start_of, place_inside, found}
 use Rattle.state_numbers.proofs.class_of.Goals as goal
 
--- what is kept at the word's number is below the state's
-module _ (c : goal.After-shared_slice_known-5-1) where
-  abbrev start : goal.Start
-  start = c
-
 pub overflow_sub-n : goal.overflow_sub-n
 overflow_sub-n c = omega (arith, c.requires.1.positive)
 
@@ -16,19 +11,25 @@ pub bounds-bytes-n : goal.bounds-bytes-n
 bounds-bytes-n c = omega (arith, c.requires.0.kept.bytes_long, c.requires.1.within, c.requires.1.positive)
 
 pub bounds-starts-n : goal.bounds-starts-n
-bounds-starts-n c = omega (arith, (start c).requires.0.kept.starts_long, (start c).requires.1.within)
+bounds-starts-n c =
+    omega (arith, c.requires.0.kept.starts_long, c.requires.1.within)
 
 pub overflow_cast-starts : goal.overflow_cast-starts
-overflow_cast-starts c = omega (arith, c.shared_slice_known-5-1.given (start c).args.n)
+overflow_cast-starts c =
+    omega (arith, c.shared_slice_known-5-1.given c.args.n)
 
 pub overflow_sub-state : goal.overflow_sub-state
-overflow_sub-state c = omega (arith, start_of (start c).requires.0 (start c).requires.1, (start c).requires.1.past)
+overflow_sub-state c =
+    omega (arith, start_of c.requires.0 c.requires.1, c.requires.1.past)
 
 pub overflow_sub-state-2 : goal.overflow_sub-state-2
-overflow_sub-state-2 c = omega (arith, start_of (start c).requires.0 (start c).requires.1, (start c).requires.1.past)
+overflow_sub-state-2 c =
+    omega (arith, start_of c.requires.0 c.requires.1, c.requires.1.past)
 
 pub class_at-requires : goal.class_at-requires
-class_at-requires c = place_inside (start c).requires.0 (start c).requires.1
+class_at-requires c =
+    place_inside c.requires.0 c.requires.1
 
 pub returns : goal.returns
-returns c = found (start c).pre.0 (start c).pre.1 c.class_at.ensures
+returns c =
+    found c.requires.0 c.requires.1 c.class_at.ensures

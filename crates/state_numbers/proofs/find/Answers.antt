@@ -8,17 +8,6 @@ use Rattle.state_numbers.proofs.States.{before_all}
 use Rattle.state_numbers.proofs.Counting.{some_before, start_at}
 use Rattle.state_numbers.proofs.find.Goals as goal
 
--- there is a word, and what is kept at its number
-module _ (c : goal.At-loop-n) where
-  abbrev start : goal.Start
-  start = c
-
-  some : 0 < c.loop-n.n
-  some = some_before start.args.words.now start.args.state c.loop-n.n start.pre.1 c.loop-n.invariant.1
-
-  before : get_or start.args.starts.now c.loop-n.n 0 ≡ states_before start.args.words.now (pred c.loop-n.n)
-  before = start_at start.pre.0 c.loop-n.n some c.loop-n.invariant.0
-
 pub loop-n-init : goal.loop-n-init
 loop-n-init c = (omega arith, omega (arith, c.requires.2, before_all c.args.words.now))
 
@@ -29,18 +18,25 @@ pub overflow_cast-starts : goal.overflow_cast-starts
 overflow_cast-starts c = omega (arith, c.shared_slice_known-1.given c.loop-n.n)
 
 pub overflow_sub-n : goal.overflow_sub-n
-overflow_sub-n c = some c
+overflow_sub-n c =
+    let some : 0 < c.loop-n.n = some_before c.args.words.now c.args.state c.loop-n.n c.requires.1 c.loop-n.invariant.1 in
+    some
 
 pub loop-n-smaller : goal.loop-n-smaller
-loop-n-smaller c = omega (arith, some c)
+loop-n-smaller c =
+    let some : 0 < c.loop-n.n = some_before c.args.words.now c.args.state c.loop-n.n c.requires.1 c.loop-n.invariant.1 in
+    omega (arith, some)
 
 pub loop-n-preserved : goal.loop-n-preserved
 loop-n-preserved c =
+    let some : 0 < c.loop-n.n = some_before c.args.words.now c.args.state c.loop-n.n c.requires.1 c.loop-n.invariant.1 in
+    let before : get_or c.args.starts.now c.loop-n.n 0 ≡ states_before c.args.words.now (pred c.loop-n.n) = start_at c.requires.0 c.loop-n.n some c.loop-n.invariant.0 in
     let at = c in
     let e : at.loop-n.n - 1 ≡ pred at.loop-n.n = omega arith in
-    (omega (arith, at.loop-n.invariant.0), rw e (omega (arith, c.loop-n-test.true, before at)))
+    (omega (arith, at.loop-n.invariant.0), rw e (omega (arith, c.loop-n-test.true, before)))
 
 pub returns : goal.returns
 returns c =
-    let at = c in
-    record { positive = some at; within = at.loop-n.invariant.0; past = omega (arith, c.loop-n-test.false, before at); last = at.loop-n.invariant.1 }
+    let some : 0 < c.loop-n.n = some_before c.args.words.now c.args.state c.loop-n.n c.requires.1 c.loop-n.invariant.1 in
+    let before : get_or c.args.starts.now c.loop-n.n 0 ≡ states_before c.args.words.now (pred c.loop-n.n) = start_at c.requires.0 c.loop-n.n some c.loop-n.invariant.0 in
+    record { positive = some; within = c.loop-n.invariant.0; past = omega (arith, c.loop-n-test.false, before); last = c.loop-n.invariant.1 }

@@ -23,13 +23,11 @@ bounds-words-i c = c.loop-i-test.true
 
 pub bounds-bytes-i : goal.bounds-bytes-i
 bounds-bytes-i c =
-    let test = c in
-    omega (arith, test.loop-i-test.true, test.requires.0.bytes_long)
+    omega (arith, c.loop-i-test.true, c.requires.0.bytes_long)
 
 pub overflow_add-total : goal.overflow_add-total
 overflow_add-total c =
-    let test = c in
-    omega (arith, test.loop-i-test.true, test.loop-i.invariant.0.few, classed-few test.requires.0, count-few _ _ c.count-total.ensures)
+    omega (arith, c.loop-i-test.true, c.loop-i.invariant.0.few, classed-few c.requires.0, count-few _ _ c.count-total.ensures)
 
 pub overflow_add-i : goal.overflow_add-i
 overflow_add-i c = omega (arith, c.loop-i-test.true)

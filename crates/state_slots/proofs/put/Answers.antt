@@ -4,5 +4,4 @@ use Rattle.state_slots.proofs.put.Goals as goal
 
 pub returns : goal.returns
 returns c =
-    let last = c in
-    rw (last.three.ensures, last.given-2.ensures, last.given.ensures, last.joined-last.ensures) refl
+    rw (c.three.ensures, c.given-2.ensures, c.given.ensures, c.joined-last.ensures) refl

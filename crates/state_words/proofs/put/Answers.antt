@@ -9,39 +9,35 @@ use Rattle.state_classes.specs.Classes.{own_words}
 use Rattle.state_words.proofs.Stating.{own-count, own-few, own-inside, own_at, own_small, put_none, put_all}
 use Rattle.state_words.proofs.put.Goals as goal
 
--- how many there are
-module _ (c : goal.After-count-count) where
-  abbrev start : goal.Start
-  start = c
-
-  few : c.count-count.result ≤ 2
-  few = own-few start.args.kind start.args.byte start.args.number c.count-count.ensures
-
 pub overflow_add-at : goal.overflow_add-at
-overflow_add-at c = omega (arith, few c, (start c).requires.1)
+overflow_add-at c =
+    let few : c.count-count.result ≤ 2 = own-few c.args.kind c.args.byte c.args.number c.count-count.ensures in
+    omega (arith, few, c.requires.1)
 
 pub returns-then-res-at : goal.returns-then-res-at
 returns-then-res-at c = put_none _ _ _ _ _ c.count-count.ensures c.if-res-at.true
 
 pub loop-k-init : goal.loop-k-init
-loop-k-init c = let a = (start c).args in (omega arith, refl, paste-zero a.result.now a.at (own_words a.kind a.byte a.number))
+loop-k-init c =
+    let a = c.args in (omega arith, refl, paste-zero a.res.now a.at (own_words a.kind a.byte a.number))
 
 pub class_at-requires : goal.class_at-requires
-class_at-requires c = let count = c in own-inside _ _ 0 count.count-count.ensures c.loop-k-test.true
+class_at-requires c = own-inside _ _ 0 c.count-count.ensures c.loop-k-test.true
 
 pub state_word-requires : goal.state_word-requires
 state_word-requires c =
     let test = c in
     let count = test in
-    (own_small _ _ 0 count.count-count.ensures test.loop-k-test.true c.class_at.ensures, (start count).requires.0)
+    (own_small _ _ 0 count.count-count.ensures test.loop-k-test.true c.class_at.ensures, c.requires.0)
 
 pub overflow_add-res : goal.overflow_add-res
-overflow_add-res c = omega (arith, c.loop-k-test.true, few c, (start c).pre.1)
+overflow_add-res c =
+    let few : c.count-count.result ≤ 2 = own-few c.args.kind c.args.byte c.args.number c.count-count.ensures in
+    omega (arith, c.loop-k-test.true, few, c.requires.1)
 
 pub bounds-res-at : goal.bounds-res-at
 bounds-res-at c =
-    let test = c in
-    omega (arith, test.loop-k-test.true, test.loop-k.invariant.1, test.if-res-at.false)
+    omega (arith, c.loop-k-test.true, c.loop-k.invariant.1, c.if-res-at.false)
 
 pub overflow_add-k : goal.overflow_add-k
 overflow_add-k c = omega (arith, c.loop-k-test.true)
@@ -54,14 +50,14 @@ loop-k-preserved c =
     let test = c in
     let at = test in
     let count = at in
-    let a = (start count).args in
+    let a = c.args in
     let inv = at.loop-k.invariant in
     let own = own_words a.kind a.byte a.number in
     let word = own_at a.kind a.byte a.number count.count-count.ensures test.loop-k-test.true c.class_at.ensures c.state_word.ensures in
     let many = own-count a.kind a.byte a.number count.count-count.ensures in (
       omega (arith, test.loop-k-test.true),
       simp length-set inv.1,
-      rw (inv.2, word, add-one at.loop-k.k) (paste-suc a.result.now a.at own at.loop-k.k 0 (omega (arith, test.loop-k-test.true, at.if-res-at.false)) (omega (arith, test.loop-k-test.true))),
+      rw (inv.2, word, add-one at.loop-k.k) (paste-suc a.res.now a.at own at.loop-k.k 0 (omega (arith, test.loop-k-test.true, at.if-res-at.false)) (omega (arith, test.loop-k-test.true))),
     )
 
 pub shape_of-res : goal.shape_of-res

@@ -6,18 +6,6 @@ use Rattle.state_numbers.proofs.Counting.{classed-few}
 use Rattle.state_words.proofs.Stating.{put-few, Stating, stating_none, stating_more, stating_all}
 use Rattle.state_words.proofs.write_all.Goals as goal
 
-module _ (c : goal.In-loop-i) where
-  abbrev start : goal.Start
-  start = c
-
--- a word is passed
-module _ (c : goal.After-slice_known-in-loop-i-1) where
-  abbrev put : goal.After-put-made
-  put = c
-
-  abbrev test : goal.In-loop-i
-  test = put.before.before.before.before.before
-
 pub loop-i-init : goal.loop-i-init
 loop-i-init c = stating_none _ _
 
@@ -26,29 +14,31 @@ bounds-words-i c = c.loop-i-test.true
 
 pub bounds-bytes-i : goal.bounds-bytes-i
 bounds-bytes-i c =
-    let test = c in
-    omega (arith, test.loop-i-test.true, (start test).requires.bytes_long)
+    omega (arith, c.loop-i-test.true, c.requires.bytes_long)
 
 pub overflow_add-i : goal.overflow_add-i
 overflow_add-i c = omega (arith, c.loop-i-test.true)
 
 pub put-made-requires : goal.put-made-requires
 put-made-requires c =
-    let test = c in
-    let few = classed-few (start test).requires in
-    (omega (arith, test.loop-i-test.true), omega (arith, test.loop-i-test.true, test.loop-i.invariant.few))
+    let few = classed-few c.requires in
+    (omega (arith, c.loop-i-test.true), omega (arith, c.loop-i-test.true, c.loop-i.invariant.few))
 
 pub overflow_add-made : goal.overflow_add-made
-overflow_add-made c = omega (arith, put-few (put c).put.ensures, (test c).loop-test.true, (test c).before.loop.invariant.few, classed-few (start (test c)).pre)
+overflow_add-made c =
+    omega (arith, put-few c.put.ensures, c.loop-test.true, c.before.loop.invariant.few, classed-few (c c).pre)
 
 pub overflow_add-i-in-loop-i : goal.overflow_add-i-in-loop-i
-overflow_add-i-in-loop-i c = omega (arith, (test c).loop-test.true)
+overflow_add-i-in-loop-i c =
+    omega (arith, c.loop-test.true)
 
 pub loop-i-smaller : goal.loop-i-smaller
-loop-i-smaller c = omega (arith, (test c).loop-test.true)
+loop-i-smaller c =
+    omega (arith, c.loop-test.true)
 
 pub loop-i-preserved : goal.loop-i-preserved
-loop-i-preserved c = stating_more (start (test c)).pre (test c).before.loop.invariant (test c).loop-test.true (put c).before.before.before.kind.ensures (put c).put.ensures
+loop-i-preserved c =
+    stating_more (c c).pre c.before.loop.invariant c.loop-test.true c.before.before.before.kind.ensures c.put.ensures
 
 pub shape_of-res : goal.shape_of-res
 shape_of-res c = c.loop-i.invariant.long

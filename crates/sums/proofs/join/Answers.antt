@@ -15,20 +15,17 @@ start c = c
 pub returns-then-p-eq0 : goal.returns-then-p-eq0
 returns-then-p-eq0 c =
     λ φ d st.
-    let n = c in
-    grown_as (summed n).sum.given.1 refl (join_no_room φ st _ (n.number-p.ensures φ d) c.if-p-eq0.true)
+    grown_as (summed c).sum.given.1 refl (join_no_room φ st _ (c.number-p.ensures φ d) c.if-p-eq0.true)
 
 pub pack-requires : goal.pack-requires
 pack-requires c =
-    let n = c in
-    let pre = (start (summed n)).requires in
-    (omega arith, subst Small (summed n).sum.given.1 pre.1, placing_small (n.number-p.ensures pre.0.formula pre.0.drafted))
+    let pre = (start (summed c)).requires in
+    (omega arith, subst Small (summed c).sum.given.1 pre.1, placing_small (c.number-p.ensures pre.0.formula pre.0.drafted))
 
 pub put-requires : goal.put-requires
 put-requires c =
-    let n = c in
-    let pre = (start (summed n)).requires.0 in
-    (n.number-p.ensures pre.formula pre.drafted).numbered
+    let pre = (start (summed c)).requires.0 in
+    (c.number-p.ensures pre.formula pre.drafted).numbered
 
 pub returns-in-Full : goal.returns-in-Full
 returns-in-Full c = λ φ d st. grown_as c.enum_told-1.given.1 refl (join-full φ st c.requires.0.numbered)
@@ -36,8 +33,7 @@ returns-in-Full c = λ φ d st. grown_as c.enum_told-1.given.1 refl (join-full �
 pub returns-in-Nothing : goal.returns-in-Nothing
 returns-in-Nothing c =
     λ φ d st.
-    let n = c in
-    grown_as n.enum_told-in-Nothing-1.given.1 c.at.ensures (join-nothing φ st (n.number.ensures φ d))
+    grown_as c.enum_told-in-Nothing-1.given.1 c.at.ensures (join-nothing φ st (c.number.ensures φ d))
 
 pub returns-else-p-eq0 : goal.returns-else-p-eq0
 returns-else-p-eq0 c =

@@ -4,5 +4,4 @@ use Rattle.temporal_slots.proofs.fixpoint.Goals as goal
 
 pub returns : goal.returns
 returns c =
-    let last = c in
-    rw (last.moved.ensures, last.lane.ensures.0, last.states.ensures) refl
+    rw (c.moved.ensures, c.lane.ensures.0, c.states.ensures) refl

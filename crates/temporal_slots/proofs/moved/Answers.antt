@@ -9,10 +9,8 @@ by_class-requires c = (simp length-set (omega arith), omega arith)
 
 pub shape_of-draft : goal.shape_of-draft
 shape_of-draft c =
-    let last = c in
-    last.by_class.auto.0 ∙ simp length-set
+    c.by_class.auto.0 ∙ simp length-set
 
 pub returns : goal.returns
 returns c =
-    let last = c in
-    rw (last.by_class.ensures, last.pack-s.ensures, last.pack.ensures) refl
+    rw (c.by_class.ensures, c.pack-s.ensures, c.pack.ensures) refl

@@ -20,99 +20,80 @@ use Rattle.text.proofs.Outcomes.{fresh, outcome_outside, outcome_long, outcome_d
 use Rattle.text.proofs.Promise.{text-words-accepted}
 use Rattle.text.proofs.read.Goals as goal
 
--- the limits are permitted
-module _ (c : goal.Else-not-permitted) where
-  abbrev start : goal.Start
-  start = c
-
-  abbrev l : Limits
-  l = start.args.limits
-
-  abbrev text : List ℕ
-  text = start.args.text.now
-
-  abbrev slice : List ℕ
-  slice = start.args.res.now
-
-  within : is_permitted l ≡ true
-  within = limits_within l _ c.permitted.ensures c.if-not-permitted.false
-
--- the text is short, and was read
-module _ (c : goal.After-count-n) where
-  abbrev parsed : goal.After-parse-place
-  parsed = c
-
-  abbrev tested : goal.Else-text-gt1024
-  tested = parsed.before.before.before.before
-
-  abbrev begun : goal.Else-not-permitted
-  begun = tested.before
-
-  short : length (text begun) ≤ 1024
-  short = tested.if2.left
-
--- it is a rule
-module _ (c : goal.Else-place-ne0) where
-  abbrev at_count : goal.After-count-n
-  at_count = c
-
-  abbrev from : goal.Else-not-permitted
-  from = begun at_count
-
-  abbrev rule : Formula
-  rule = ((parsed at_count).parse.ensures.reads c.if-place-ne0.false).0
-
-  is-rule : reading_of (text from) ≡ some rule
-  is-rule = ((parsed at_count).parse.ensures.reads c.if-place-ne0.false).1
-
-  few : length (table_of rule) ≡ at_count.count.result
-  few = counted (parsed at_count).parse.ensures c.if-place-ne0.false _ at_count.count.ensures
-
 pub returns-then-not-permitted : goal.returns-then-not-permitted
 returns-then-not-permitted c =
     let a = c.args in
-    outcome_outside a.limits a.text.now a.result.now (limits_outside a.limits _ c.permitted.ensures c.if-not-permitted.true)
+    outcome_outside a.limits a.text.now a.res.now (limits_outside a.limits _ c.permitted.ensures c.if-not-permitted.true)
 
 pub returns-then-text-gt1024 : goal.returns-then-text-gt1024
-returns-then-text-gt1024 c = let b = c in outcome_long (l b) (text b) (slice b) (within b) c.if-text-gt1024.true
+returns-then-text-gt1024 c =
+    let l : Limits = c.args.limits in
+    let text : List ℕ = c.args.text.now in
+    let slice : List ℕ = c.args.res.now in
+    let within : is_permitted l ≡ true = limits_within l _ c.permitted.ensures c.if-not-permitted.false in
+    outcome_long (l) (text) (slice) (within) c.if-text-gt1024.true
 
 pub parse-place-requires : goal.parse-place-requires
 parse-place-requires c = fresh _ c.if-text-gt1024.false
 
 pub returns-then-place-ne0 : goal.returns-then-place-ne0
 returns-then-place-ne0 c =
-    let n = c in
-    let b = begun n in
-    outcome_departs (l b) (text b) (slice b) (within b) (short n) _ ((parsed n).parse.ensures.departs (omega (arith, c.if-place-ne0.true)))
+    let l : Limits = c.args.limits in
+    let text : List ℕ = c.args.text.now in
+    let slice : List ℕ = c.args.res.now in
+    let within : is_permitted l ≡ true = limits_within l _ c.permitted.ensures c.if-not-permitted.false in
+    let short : length (text) ≤ 1024 = c.if2.left in
+    outcome_departs (l) (text) (slice) (within) (short) _ (c.parse.ensures.departs (omega (arith, c.if-place-ne0.true)))
 
 pub returns-then-limits-n : goal.returns-then-limits-n
 returns-then-limits-n c =
-    let r = c in
-    let b = from r in
-    outcome_many (l b) (text b) (slice b) (within b) (short (at_count r)) (rule r) (is-rule r) (omega (arith, few r, c.if-limits-n.true))
+    let l : Limits = c.args.limits in
+    let text : List ℕ = c.args.text.now in
+    let slice : List ℕ = c.args.res.now in
+    let within : is_permitted l ≡ true = limits_within l _ c.permitted.ensures c.if-not-permitted.false in
+    let short : length (text) ≤ 1024 = c.if2.left in
+    let rule : Formula = (c.parse.ensures.reads c.if-place-ne0.false).0 in
+    let is-rule : reading_of (text) ≡ some rule = (c.parse.ensures.reads c.if-place-ne0.false).1 in
+    let few : length (table_of rule) ≡ c.count.result = counted c.parse.ensures c.if-place-ne0.false _ c.count.ensures in
+    outcome_many (l) (text) (slice) (within) (short c) (rule) (is-rule) (omega (arith, few, c.if-limits-n.true))
 
 pub slice_bounds-write-end : goal.slice_bounds-write-end
-slice_bounds-write-end c = let n = c in sym (length-take-le _ (parsed n).parse.new.1.1.0 (omega (arith, n.count-n.ensures, (parsed n).parse.ensures.numbered.within)))
+slice_bounds-write-end c =
+    sym (length-take-le _ c.parse.new.1.1.0 (omega (arith, c.count-n.ensures, c.parse.ensures.numbered.within)))
 
 pub write-requires : goal.write-requires
 write-requires c =
+    let l : Limits = c.args.limits in
+    let text : List ℕ = c.args.text.now in
+    let within : is_permitted l ≡ true = limits_within l _ c.permitted.ensures c.if-not-permitted.false in
+    let rule : Formula = (c.parse.ensures.reads c.if-place-ne0.false).0 in
+    let is-rule : reading_of (text) ≡ some rule = (c.parse.ensures.reads c.if-place-ne0.false).1 in
+    let few : length (table_of rule) ≡ c.count.result = counted c.parse.ensures c.if-place-ne0.false _ c.count.ensures in
     let at-few = c in
     let r = at-few in
-    let b = from r in
-    let p = (parsed (at_count r)).parse.ensures in
-    let written = (permitted (l b) (within b)).written in
-    subst Headable (sym (copied p r.if-place-ne0.false _ (at_count r).count.ensures)) (record {
+    let b = c in
+    let p = (c c).parse.ensures in
+    let written = (permitted (l) (within)).written in
+    subst Headable (sym (copied p r.if-place-ne0.false _ c.count.ensures)) (record {
       plain_only = _;
-      limit = (l b).written;
-      accepted = text-words-accepted (sound (text b) (rule r) (is-rule r)) (l b).written (omega (arith, few r, at-few.if-limits-n.false)) (omega (arith, written));
+      limit = (l).written;
+      accepted = text-words-accepted (sound (text) (rule) (is-rule)) (l).written (omega (arith, few, at-few.if-limits-n.false)) (omega (arith, written));
       small = omega (arith, written);
     })
 
 pub returns : goal.returns
 returns c =
+    let l : Limits = c.args.limits in
+    let text : List ℕ = c.args.text.now in
+    let slice : List ℕ = c.args.res.now in
+    let within : is_permitted l ≡ true = limits_within l _ c.permitted.ensures c.if-not-permitted.false in
+    let short : length (text) ≤ 1024 = c.if2.left in
+    let rule : Formula = (c.parse.ensures.reads c.if-place-ne0.false).0 in
+    let is-rule : reading_of (text) ≡ some rule = (c.parse.ensures.reads c.if-place-ne0.false).1 in
+    let few : length (table_of rule) ≡ c.count.result = counted c.parse.ensures c.if-place-ne0.false _ c.count.ensures in
     let at-write = c in
     let at-few = at-write in
     let r = at-few in
-    let b = from r in
-    outcome_given (l b) (text b) (slice b) (within b) (short (at_count r)) (rule r) (is-rule r) (omega (arith, few r, at-few.if-limits-n.false))
-    (copied (parsed (at_count r)).parse.ensures r.if-place-ne0.false _ (at_count r).count.ensures) at-write.write.ensures
+    let b = c in
+    outcome_given (l) (text) (slice) (within) (short c) (rule) (is-rule) (omega (arith, few, at-few.if-limits-n.false))
+    (copied (c c).parse.ensures r.if-place-ne0.false _ c.count.ensures) at-write.write.ensures

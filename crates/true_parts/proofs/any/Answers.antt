@@ -7,8 +7,7 @@ use Rattle.true_parts.proofs.any.Goals as goal
 
 pub overflow_sub-bits : goal.overflow_sub-bits
 overflow_sub-bits c =
-    let start = c in
-    rw (shifted start.args.bits start.requires.1.1) (pow_pos start.args.bits)
+    rw (shifted c.args.bits c.requires.1.1) (pow_pos c.args.bits)
 
 pub each-requires : goal.each-requires
 each-requires c =

@@ -25,7 +25,7 @@ module _ (p : goal.After-part-root) where
   t = (start at-loop).args.table.now
 
   few : length folded ≤ 2 ^ 20
-  few = omega (arith, p.part-root.kept.1.1.1.1.0, at-loop.loop.inv.3, (start at-loop).pre.0.long, (start at-loop).pre.0.fillable.room.narrow)
+  few = omega (arith, p.part-root.kept.1.1.1.1.0, at-loop.loop.inv.3, (start at-loop).requires.0.long, (start at-loop).requires.0.fillable.room.narrow)
 
   within : p.part-root.result < length folded
   within = drafted_within folded (folded_part t at-loop.loop.choice) p.part-root.result p.part-root.ensures.0
@@ -38,8 +38,7 @@ loop-choice-init c = (shifted _ c.requires.1, zero-le, refl, refl, c.requires.0.
 
 pub part-root-requires : goal.part-root-requires
 part-root-requires c =
-    let l = c in
-    ready_again (start l).requires.0 l.loop-choice.invariant.2 l.loop-choice.invariant.3 l.loop-choice.invariant.4
+    ready_again (start c).requires.0 c.loop-choice.invariant.2 c.loop-choice.invariant.3 c.loop-choice.invariant.4
 
 pub offset_bounds-folded-root : goal.offset_bounds-folded-root
 offset_bounds-folded-root c = omega (arith, within c, few c)
@@ -48,29 +47,27 @@ pub bounds-folded-root : goal.bounds-folded-root
 bounds-folded-root c = within c
 
 pub shape_of-draft-then-kind-eq-TRUE : goal.shape_of-draft-then-kind-eq-TRUE
-shape_of-draft-then-kind-eq-TRUE c = let p = c in p.part-root.auto.1.1.1.0 ∙ (at-loop p).loop.invariant.2
+shape_of-draft-then-kind-eq-TRUE c = c.part-root.auto.1.1.1.0 ∙ (at-loop c).loop.invariant.2
 
 pub shape_of-folded-then-kind-eq-TRUE : goal.shape_of-folded-then-kind-eq-TRUE
-shape_of-folded-then-kind-eq-TRUE c = let p = c in p.part-root.auto.1.1.1.1.0 ∙ (at-loop p).loop.invariant.3
+shape_of-folded-then-kind-eq-TRUE c = c.part-root.auto.1.1.1.1.0 ∙ (at-loop c).loop.invariant.3
 
 pub returns-then-kind-eq-TRUE : goal.returns-then-kind-eq-TRUE
 returns-then-kind-eq-TRUE c =
-    let p = c in
-    (found (t p) (folded p) (at-loop p).loop.choice p.part-root.result p.part-root.ensures.0 (few p) _ (omega (arith, p.loop-choice-test.true, (at-loop p).loop.invariant.0)) (sym c.kind.ensures ∙ c.if-kind-eq-TRUE.true), p.part-root.ensures.1)
+    (found (t c) (folded c) (at-loop c).loop.choice c.part-root.result c.part-root.ensures.0 (few c) _ (omega (arith, c.loop-choice-test.true, (at-loop c).loop.invariant.0)) (sym c.kind.ensures ∙ c.if-kind-eq-TRUE.true), c.part-root.ensures.1)
 
 pub overflow_add-choice : goal.overflow_add-choice
 overflow_add-choice c = omega (arith, c.loop-choice-test.true)
 
 pub loop-choice-preserved : goal.loop-choice-preserved
 loop-choice-preserved c =
-    let p = c in
-    let inv = (at-loop p).loop.invariant in (
+    let inv = (at-loop c).loop.invariant in (
       inv.0,
-      omega (arith, p.loop-choice-test.true),
-      p.part-root.auto.1.1.1.0 ∙ inv.2,
-      p.part-root.auto.1.1.1.1.0 ∙ inv.3,
-      p.part-root.ensures.1,
-      untrue_next (t p) (folded p) (at-loop p).loop.choice p.part-root.result p.part-root.ensures.0 (few p) (λ e. c.if-kind-eq-TRUE.false (c.kind.ensures ∙ e)) inv.5,
+      omega (arith, c.loop-choice-test.true),
+      c.part-root.auto.1.1.1.0 ∙ inv.2,
+      c.part-root.auto.1.1.1.1.0 ∙ inv.3,
+      c.part-root.ensures.1,
+      untrue_next (t c) (folded c) (at-loop c).loop.choice c.part-root.result c.part-root.ensures.0 (few c) (λ e. c.if-kind-eq-TRUE.false (c.kind.ensures ∙ e)) inv.5,
     )
 
 pub shape_of-draft : goal.shape_of-draft

@@ -8,10 +8,6 @@ use Rattle.turns.proofs.Making.{stuck-makes, end_makes, close-empty, close-brack
 use borrow.Author.Rules.{rules}
 use Rattle.turns.proofs.close.Goals as goal
 
--- something is open
-deep : (c : goal.Else-depth-eq0) → 0 < c.args.depth
-deep c = omega (arith, c.if-depth-eq0.false)
-
 pub stuck-requires : goal.stuck-requires
 stuck-requires c = search rules
 
@@ -23,8 +19,8 @@ stuck-requires-then-e-eq0 c = search rules
 
 pub returns-then-e-eq0 : goal.returns-then-e-eq0
 returns-then-e-eq0 c =
-    let at-else = c in
-    stuck-makes _ _ _ at-else.requires.0.numbered c.stuck-then-e-eq0.ensures (close-bracket_only _ _ _ _ (deep at-else) c.if-e-eq0.true)
+    let deep : 0 < c.args.depth = omega (arith, c.if-depth-eq0.false) in
+    stuck-makes _ _ _ c.requires.0.numbered c.stuck-then-e-eq0.ensures (close-bracket_only _ _ _ _ (deep c) c.if-e-eq0.true)
 
 pub kind-kind-requires : goal.kind-kind-requires
 kind-kind-requires c = search rules
@@ -37,6 +33,7 @@ stuck-requires-then-is_prefix c = search rules
 
 pub returns-then-is_prefix : goal.returns-then-is_prefix
 returns-then-is_prefix c =
+    let deep : 0 < c.args.depth = omega (arith, c.if-depth-eq0.false) in
     let at-kind = c in
     let at-else = at-kind in
     stuck-makes _ _ _ at-else.requires.0.numbered c.stuck-then-is_prefix.ensures
@@ -63,6 +60,7 @@ end-o-requires c =
 
 pub returns : goal.returns
 returns c =
+    let deep : 0 < c.args.depth = omega (arith, c.if-depth-eq0.false) in
     let at-end = c in
     let at-prefix = at-end in
     let at-kind = at-prefix in

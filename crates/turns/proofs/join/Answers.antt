@@ -21,5 +21,4 @@ pack-requires c = search rules
 
 pub returns : goal.returns
 returns c =
-    let at-else = c in
-    (rw c.pack.ensures (join_made _ _ _ _ _ (omega (arith, at-else.if-depth-eq0.false)) at-else.requires.2 c.if-stack-top-ne0.false), tt)
+    (rw c.pack.ensures (join_made _ _ _ _ _ (omega (arith, c.if-depth-eq0.false)) c.requires.2 c.if-stack-top-ne0.false), tt)

@@ -9,10 +9,8 @@ returns-then-n-eq0 c = earlier_none (take c.args.so_far c.args.sizes.now) c.args
 
 pub returns-then-so_far-n : goal.returns-then-so_far-n
 returns-then-so_far-n c =
-    let s = c in
-    earlier_past (take s.args.so_far s.args.sizes.now) s.args.n (omega (arith, length-take-le s.args.so_far s.args.sizes.now s.requires))
+    earlier_past (take c.args.so_far c.args.sizes.now) c.args.n (omega (arith, length-take-le c.args.so_far c.args.sizes.now c.requires))
 
 pub returns : goal.returns
 returns c =
-    let s = c in
-    earlier_at s.args.sizes.now s.args.so_far s.args.n (omega arith) (omega arith) s.requires
+    earlier_at c.args.sizes.now c.args.so_far c.args.n (omega arith) (omega arith) c.requires

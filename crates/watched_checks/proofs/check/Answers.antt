@@ -14,29 +14,25 @@ use Rattle.heading.proofs.Order.{some_word}
 use Rattle.automaton_steps.proofs.States.{table-refused, not_delta, watched_accepted}
 use Rattle.watched_checks.proofs.check.Goals as goal
 
--- the table has passed the checks, and so has a word
-module _ (c : goal.In-Accepted) where
-  abbrev t : List ℕ
-  t = c.args.table.now
-
-  accepted : headed_checked true 16383 t ≡ Accepted
-  accepted = sym c.check.ensures ∙ c.enum_told-1.given.1
-
-  some : 1 ≤ length t
-  some = some_word true 16383 t accepted
-
--- and its header tells whether it is in Delta-2
-normal : (c : goal.After-is_normal) → c.is_normal.result ≡ is_normal (body (t c))
-normal c = let told = c in c.is_normal.ensures ∙ normal-header 16383 (omega arith) (t told) (accepted told)
-
 pub bounds-table-0 : goal.bounds-table-0
-bounds-table-0 c = some c
+bounds-table-0 c =
+    let t : List ℕ = c.args.table.now in
+    let some : 1 ≤ length t = some_word true 16383 t in
+    some
 
 pub returns-then-is_normal : goal.returns-then-is_normal
-returns-then-is_normal c = let told = c in sym (watched_accepted (t told) (accepted told) (sym (normal c) ∙ c.if-is_normal.true))
+returns-then-is_normal c =
+    let t : List ℕ = c.args.table.now in
+    let accepted : headed_checked true 16383 t ≡ Accepted = sym c.check.ensures ∙ c.enum_told-1.given.1 in
+    let normal : c.is_normal.result ≡ is_normal (body (t)) = let told = c in c.is_normal.ensures ∙ normal-header 16383 (omega arith) (t) (accepted) in
+    let told = c in sym (watched_accepted (t) (accepted) (sym (normal) ∙ c.if-is_normal.true))
 
 pub returns-in-Refused : goal.returns-in-Refused
 returns-in-Refused c = sym (table-refused _ _ (sym c.check.ensures ∙ c.r-1.given.1))
 
 pub returns-else-is_normal : goal.returns-else-is_normal
-returns-else-is_normal c = let told = c in sym (not_delta (t told) (accepted told) (sym (normal c) ∙ c.if-is_normal.false))
+returns-else-is_normal c =
+    let t : List ℕ = c.args.table.now in
+    let accepted : headed_checked true 16383 t ≡ Accepted = sym c.check.ensures ∙ c.enum_told-1.given.1 in
+    let normal : c.is_normal.result ≡ is_normal (body (t)) = let told = c in c.is_normal.ensures ∙ normal-header 16383 (omega arith) (t) (accepted) in
+    let told = c in sym (not_delta (t) (accepted) (sym (normal) ∙ c.if-is_normal.false))

@@ -11,47 +11,45 @@ use Rattle.class_bytes.proofs.Words.{left_operand, right_operand, byte-by_kind}
 use borrow.Author.Rules.{rules}
 use Rattle.class_bytes.proofs.fill.byte_at.Goals as goal
 
--- what was found of the kind is what the word's shape stands for
-found : (c : goal.After-of) → Stands (shape (kind (get_or c.args.table.now c.args.j 0))) c.of.result
-found c = rw c.kind.ensures at c.of.ensures
-
 pub of-requires : goal.of-requires
 of-requires c = let w = c.requires.0 _ c.requires.1 in rw c.kind.ensures (w.kinded, w.plain)
 
 pub operand-requires : goal.operand-requires
 operand-requires c =
-    let s = c in
-    let stands = rw c.enum_told-in-Next-1.given.1 at (found c) in
-    rw c.right.ensures (right_operand _ _ _ s.requires.0 s.requires.1 s.requires.2 stands refl)
+    let found : Stands (shape (kind (get_or c.args.table.now c.args.j 0))) c.of.result = rw c.kind.ensures at c.of.ensures in
+    let stands = rw c.enum_told-in-Next-1.given.1 at (found) in
+    rw c.right.ensures (right_operand _ _ _ c.requires.0 c.requires.1 c.requires.2 stands refl)
 
 pub operand-requires-in-Binary : goal.operand-requires-in-Binary
 operand-requires-in-Binary c =
-    let s = c in
-    let stands = rw c.o-1.given.1 at (found c) in
-    rw c.left.ensures (left_operand _ _ _ s.requires.0 s.requires.1 s.requires.2 stands refl)
+    let found : Stands (shape (kind (get_or c.args.table.now c.args.j 0))) c.of.result = rw c.kind.ensures at c.of.ensures in
+    let stands = rw c.o-1.given.1 at (found) in
+    rw c.left.ensures (left_operand _ _ _ c.requires.0 c.requires.1 c.requires.2 stands refl)
 
 pub operand-requires-in-Binary-2 : goal.operand-requires-in-Binary-2
 operand-requires-in-Binary-2 c =
-    let s = c in
-    let stands = rw c.o-1.given.1 at (found c) in
-    rw c.right-in-Binary.ensures (right_operand _ _ _ s.requires.0 s.requires.1 s.requires.2 stands refl)
+    let found : Stands (shape (kind (get_or c.args.table.now c.args.j 0))) c.of.result = rw c.kind.ensures at c.of.ensures in
+    let stands = rw c.o-1.given.1 at (found) in
+    rw c.right-in-Binary.ensures (right_operand _ _ _ c.requires.0 c.requires.1 c.requires.2 stands refl)
 
 pub returns-in-Atomic : goal.returns-in-Atomic
 returns-in-Atomic c =
-    let s = c in
-    byte-by_kind _ _ _ s.requires.0 s.requires.1 s.requires.2 kinds.Atomic (rw c.enum_told-1.given.1 at (found c))
+    let found : Stands (shape (kind (get_or c.args.table.now c.args.j 0))) c.of.result = rw c.kind.ensures at c.of.ensures in
+    byte-by_kind _ _ _ c.requires.0 c.requires.1 c.requires.2 kinds.Atomic (rw c.enum_told-1.given.1 at (found))
 
 pub returns-in-Next : goal.returns-in-Next
 returns-in-Next c =
+    let found : Stands (shape (kind (get_or c.args.table.now c.args.j 0))) c.of.result = rw c.kind.ensures at c.of.ensures in
     let s = c in
     c.next.ensures
     ∙ ap next_byte (c.operand.ensures ∙ ap (λ (n : ℕ). get_or s.args.bytes.now (n - 1) 0) c.right.ensures)
-    ∙ byte-by_kind _ _ _ s.requires.0 s.requires.1 s.requires.2 kinds.Next (rw c.enum_told-in-Next-1.given.1 at (found c))
+    ∙ byte-by_kind _ _ _ s.requires.0 s.requires.1 s.requires.2 kinds.Next (rw c.enum_told-in-Next-1.given.1 at (found))
 
 pub returns-in-Binary : goal.returns-in-Binary
 returns-in-Binary c =
+    let found : Stands (shape (kind (get_or c.args.table.now c.args.j 0))) c.of.result = rw c.kind.ensures at c.of.ensures in
     let s = c in
     let byte : ℕ → ℕ = λ n. get_or s.args.bytes.now (n - 1) 0 in
     c.binary.ensures
     ∙ ap₂ (operator_byte c.o-1.given.0.0) (c.operand-in-Binary.ensures ∙ ap byte c.left.ensures) (c.operand-in-Binary-2.ensures ∙ ap byte c.right-in-Binary.ensures)
-    ∙ byte-by_kind _ _ _ s.requires.0 s.requires.1 s.requires.2 (kinds.Binary _) (rw c.o-1.given.1 at (found c))
+    ∙ byte-by_kind _ _ _ s.requires.0 s.requires.1 s.requires.2 (kinds.Binary _) (rw c.o-1.given.1 at (found))

@@ -15,7 +15,7 @@ count : (s : goal.Start) → count_of s.args.index.now ≡ s.args.i
 count s = s.requires.2.indexed.count_at ∙ length-take-le _ _ (omega (arith, s.requires.0))
 
 pub find-requires : goal.find-requires
-find-requires c = let s = c in rw (count s) (omega (arith, s.requires.0), s.requires.2.indexed)
+find-requires c = rw (count c) (omega (arith, c.requires.0), c.requires.2.indexed)
 
 pub returns-then-find-gt0 : goal.returns-then-find-gt0
 returns-then-find-gt0 c =
@@ -26,21 +26,20 @@ returns-then-find-gt0 c =
     }
 
 pub add-requires : goal.add-requires
-add-requires c = let s = c in rw (count s) (omega (arith, s.requires.0, s.requires.1.words), s.requires.2.indexed.small)
+add-requires c = rw (count c) (omega (arith, c.requires.0, c.requires.1.words), c.requires.2.indexed.small)
 
 pub returns-in-Refused : goal.returns-in-Refused
 returns-in-Refused c = record { answer = rw (word_then_repeated, ← c.fault.ensures.answer, c.r-1.given.1); kept = refused_kept }
 
 pub returns-else-find-gt0 : goal.returns-else-find-gt0
 returns-else-find-gt0 c =
-    let s = c in
     let fields = c.fault.ensures in
     let passed = c.enum_told-1.given.1 in
-    let absent = rw (count s) at (c.find.ensures.absent (omega arith)) in
+    let absent = rw (count c) at (c.find.ensures.absent (omega arith)) in
     record {
       answer = rw (word_then_repeated, ← fields.answer, passed, absent);
       kept =
           λ z.
-          rw (add-one, take-suc s.args.words.now s.args.i 0 s.requires.0, fields.passed passed)
-          (record { indexed = c.add.ensures _ s.requires.2.indexed; marked = marked_more _ s.requires.2.marked });
+          rw (add-one, take-suc c.args.words.now c.args.i 0 c.requires.0, fields.passed passed)
+          (record { indexed = c.add.ensures _ c.requires.2.indexed; marked = marked_more _ c.requires.2.marked });
     }

@@ -14,27 +14,29 @@ use Rattle.heading.proofs.Order.{whole_body}
 use Rattle.judge_conditions.proofs.Outcomes.{row-refused, row-accepted}
 use Rattle.judge_checks.proofs.checks.check_row.Goals as goal
 
-module _ (c : goal.In-Accepted) where
-  abbrev t : List ℕ
-  t = c.args.table.now
-
-  told : headed_checked false 16383 t ≡ Accepted
-  told = sym c.check.ensures ∙ c.enum_told-1.given.1
-
-  some : 1 ≤ length t
-  some = omega (arith, ap length (accepted-headed false 16383 t told).whole)
-
 pub slice_bounds-check_memory-count : goal.slice_bounds-check_memory-count
-slice_bounds-check_memory-count c = omega (arith, some c)
+slice_bounds-check_memory-count c =
+    let t : List ℕ = c.args.table.now in
+    let some : 1 ≤ length t = omega (arith, ap length (accepted-headed false 16383 t).whole) in
+    omega (arith, some)
 
 pub slice_bounds-check_memory-start : goal.slice_bounds-check_memory-start
-slice_bounds-check_memory-start c = omega (arith, some c)
+slice_bounds-check_memory-start c =
+    let t : List ℕ = c.args.table.now in
+    let some : 1 ≤ length t = omega (arith, ap length (accepted-headed false 16383 t).whole) in
+    omega (arith, some)
 
 pub check_memory-requires : goal.check_memory-requires
-check_memory-requires c = omega (arith, ap length (whole_body (t c)), (accepted-well-formed false 16383 _ (accepted-headed false 16383 _ (told c)).words).few)
+check_memory-requires c =
+    let t : List ℕ = c.args.table.now in
+    let told : headed_checked false 16383 t ≡ Accepted = sym c.check.ensures ∙ c.enum_told-1.given.1 in
+    omega (arith, ap length (whole_body (t)), (accepted-well-formed false 16383 _ (accepted-headed false 16383 _ (told)).words).few)
 
 pub returns-in-Refused : goal.returns-in-Refused
 returns-in-Refused c = sym (row-refused _ _ _ _ _ _ (sym c.check.ensures ∙ c.why-1.given.1))
 
 pub returns-in-Accepted : goal.returns-in-Accepted
-returns-in-Accepted c = rw (whole_body (t c)) at c.check_memory.ensures ∙ sym (row-accepted _ _ _ _ _ (told c))
+returns-in-Accepted c =
+    let t : List ℕ = c.args.table.now in
+    let told : headed_checked false 16383 t ≡ Accepted = sym c.check.ensures ∙ c.enum_told-1.given.1 in
+    rw (whole_body (t)) at c.check_memory.ensures ∙ sym (row-accepted _ _ _ _ _ (told))

@@ -35,8 +35,7 @@ stuck-requires c = search rules
 
 pub returns-then-n-eq0 : goal.returns-then-n-eq0
 returns-then-n-eq0 c =
-    let at-start = c in
-    stuck-makes _ _ _ at-start.requires.0.numbered c.stuck.ensures
+    stuck-makes _ _ _ c.requires.0.numbered c.stuck.ensures
     (letter_none _ _ _ _ (sym c.if-is_digit.false ∙ c.is_digit.ensures) c.if-n-eq0.true)
 
 pub pack-w-requires : goal.pack-w-requires

@@ -32,13 +32,11 @@ stuck-requires c = search rules
 
 pub returns-then-left-b : goal.returns-then-left-b
 returns-then-left-b c =
-    let at-start = c in
-    stuck-makes _ _ _ at-start.requires.0.numbered c.stuck.ensures (step_other _ _ c.if-left-ne0.true c.if-left-b.true)
+    stuck-makes _ _ _ c.requires.0.numbered c.stuck.ensures (step_other _ _ c.if-left-ne0.true c.if-left-b.true)
 
 pub returns-then-left-ne0 : goal.returns-then-left-ne0
 returns-then-left-ne0 c =
-    let at-start = c in
-    record { numbered = at-start.requires.0.numbered; fit = at-start.requires.1; same = sym (step_inside _ _ c.if-left-ne0.true c.if-left-b.false) }
+    record { numbered = c.requires.0.numbered; fit = c.requires.1; same = sym (step_inside _ _ c.if-left-ne0.true c.if-left-b.false) }
 
 pub sign_of-requires : goal.sign_of-requires
 sign_of-requires c = search rules
@@ -50,19 +48,17 @@ begin-requires c =
 
 pub letter-requires : goal.letter-requires
 letter-requires c =
-    let at_turn = c in
     let pre = c.requires in
-    (pre.0, subst Fit at_turn.turn-1.given.1 pre.1)
+    (pre.0, subst Fit c.turn-1.given.1 pre.1)
 
 pub sign_of-requires-in-Ended : goal.sign_of-requires-in-Ended
 sign_of-requires-in-Ended c = search rules
 
 pub follow-requires : goal.follow-requires
 follow-requires c =
-    let at_turn = c in
     let pre = c.requires in
     let h = pre.0 in
-    (record { numbered = h.numbered; long = h.long; wide = h.wide; room = omega (arith, h.room) }, (sign-kinded c.args.b c.sign_of-in-Ended.ensures, subst Fit at_turn.turn-in-Ended-1.given.1 pre.1))
+    (record { numbered = h.numbered; long = h.long; wide = h.wide; room = omega (arith, h.room) }, (sign-kinded c.args.b c.sign_of-in-Ended.ensures, subst Fit c.turn-in-Ended-1.given.1 pre.1))
 
 pub stuck-requires-in-Stuck : goal.stuck-requires-in-Stuck
 stuck-requires-in-Stuck c = search rules
@@ -93,5 +89,4 @@ returns-in-Ended c =
 
 pub returns-in-Stuck : goal.returns-in-Stuck
 returns-in-Stuck c =
-    let at-else = c in
-    stuck-makes _ _ _ at-else.requires.0.numbered c.stuck-in-Stuck.ensures (turned at-else _ c.enum_told-in-Stuck-1.given.1)
+    stuck-makes _ _ _ c.requires.0.numbered c.stuck-in-Stuck.ensures (turned c _ c.enum_told-in-Stuck-1.given.1)
