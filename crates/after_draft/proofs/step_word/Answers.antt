@@ -76,43 +76,32 @@ pub returns-in-7 : goal.returns-in-7
 returns-in-7 c =
     let q : Next c.args.sample c.args.table.now c.args.draft.now c.args.j = c.requires in
     let word : WordAt c.args.table.now c.args.j c.read-w.result.kind c.read-w.result.left c.read-w.result.right = c.read-w.ensures in
-    let x = c in
-    let r = x in
-    rw x.next.ensures (next_filled (q) (word) x.in-7.keys1)
+    rw c.next.ensures (next_filled (q) (word) c.in-7.keys1)
 
 pub returns-in-1-to-2 : goal.returns-in-1-to-2
 returns-in-1-to-2 c =
     let q : Next c.args.sample c.args.table.now c.args.draft.now c.args.j = c.requires in
     let word : WordAt c.args.table.now c.args.j c.read-w.result.kind c.read-w.result.left c.read-w.result.right = c.read-w.ensures in
-    let x = c in
-    let r = x in
-    rw x.leaf.ensures (constant-filled (q) (word) (omega arith) (omega arith))
+    rw c.leaf.ensures (constant-filled (q) (word) (omega arith) (omega arith))
 
 pub returns-in-3-to-4 : goal.returns-in-3-to-4
 returns-in-3-to-4 c =
     let q : Next c.args.sample c.args.table.now c.args.draft.now c.args.j = c.requires in
     let word : WordAt c.args.table.now c.args.j c.read-w.result.kind c.read-w.result.left c.read-w.result.right = c.read-w.ensures in
-    let x = c in
-    let r = x in
-    rw x.leaf-in-3-to-4.ensures (letter-filled (q) (word) (omega arith) (omega arith) x.reading.ensures)
+    rw c.leaf-in-3-to-4.ensures (letter-filled (q) (word) (omega arith) (omega arith) c.reading.ensures)
 
 pub returns-in-5-to-6 : goal.returns-in-5-to-6
 returns-in-5-to-6 c =
     let q : Next c.args.sample c.args.table.now c.args.draft.now c.args.j = c.requires in
     let word : WordAt c.args.table.now c.args.j c.read-w.result.kind c.read-w.result.left c.read-w.result.right = c.read-w.ensures in
-    let x = c in
-    let r = x in
-    rw x.junction.ensures (junction-filled (q) (word) (omega arith) (omega arith))
+    rw c.junction.ensures (junction-filled (q) (word) (omega arith) (omega arith))
 
 pub returns-in-8-to-9 : goal.returns-in-8-to-9
 returns-in-8-to-9 c =
     let q : Next c.args.sample c.args.table.now c.args.draft.now c.args.j = c.requires in
     let word : WordAt c.args.table.now c.args.j c.read-w.result.kind c.read-w.result.left c.read-w.result.right = c.read-w.ensures in
     let until_like : Fixpoint conj disj (shape c.read-w.result.kind) = until_at _ (omega (arith, c.in_default-1.rest)) (omega arith) in
-    let x = c in
-    let then = x in
-    let r = then in
-    rw x.fixpoint.ensures (fixpoint-filled (q) (word) (until_like))
+    rw c.fixpoint.ensures (fixpoint-filled (q) (word) (until_like))
 
 pub returns-in_default : goal.returns-in_default
 returns-in_default c =

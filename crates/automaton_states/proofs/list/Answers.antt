@@ -9,7 +9,4 @@ returns-then-n-room c =
 
 pub returns : goal.returns
 returns c =
-    let cleared = c in
-    let tested = cleared in
-    let asked = tested in
-    listed-short asked.write-n.ensures asked.room.ensures tested.if-n-room.false cleared.words.ensures
+    listed-short c.write-n.ensures c.room.ensures c.if-n-room.false c.words.ensures

@@ -25,21 +25,19 @@ overflow_shl-limit c = c.requires.1.1
 
 pub loop-ones-init : goal.loop-ones-init
 loop-ones-init c =
-    let at-start = c in
-    let q = at-start.requires.0 in
-    let k = at-start.args.bits in
-    let limit = shifted k at-start.requires.1.1 in
-    (counted_start k limit, refl, refl, refl, refl, refl, refl, q.ready.fillable.laid, none_grown at-start.args.table.now k limit q.numbered)
+    let q = c.requires.0 in
+    let k = c.args.bits in
+    let limit = shifted k c.requires.1.1 in
+    (counted_start k limit, refl, refl, refl, refl, refl, refl, q.ready.fillable.laid, none_grown c.args.table.now k limit q.numbered)
 
 pub overflow_sub-choice : goal.overflow_sub-choice
 overflow_sub-choice c = c.loop-ones.invariant.0.some
 
 pub with_part-sum-requires : goal.with_part-sum-requires
 with_part-sum-requires c =
-    let l = c in
-    let inv = l.loop-ones.invariant in
-    let q = (start l).requires in
-    (joinable_again q.0 inv.1 inv.2 inv.3 inv.4 inv.7 inv.8.numbered, (q.1.0 _ (choice-inside inv.0 (shifted (start l).args.bits q.1.1)), inv.8.small))
+    let inv = c.loop-ones.invariant in
+    let q = (start c).requires in
+    (joinable_again q.0 inv.1 inv.2 inv.3 inv.4 inv.7 inv.8.numbered, (q.1.0 _ (choice-inside inv.0 (shifted (start c).args.bits q.1.1)), inv.8.small))
 
 pub overflow_add-ones : goal.overflow_add-ones
 overflow_add-ones c = let l = began c in count_fits l.before.loop.inv.0 l.loop-test.taken (start l.before).requires.1.1

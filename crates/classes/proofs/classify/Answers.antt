@@ -25,11 +25,10 @@ pub returns-then-bytes-table : goal.returns-then-bytes-table
 unfolding headed_checked
 returns-then-bytes-table c =
     let accepted : headed_checked true 16383 (start c).args.table.now ≡ Accepted = sym c.check.ensures ∙ c.enum_told-1.given.1 in
-    let tested = c in
-    let t = (start tested).args.table.now in
-    let b = (start tested).args.bytes.now in
+    let t = (start c).args.table.now in
+    let b = (start c).args.bytes.now in
     let a = accepted in
-    let f = too_short t a b (omega (arith, tested.if-bytes-table.true)) in
+    let f = too_short t a b (omega (arith, c.if-bytes-table.true)) in
     (sym (too_long class_step t b a f), c.bytes.ensures ∙ sym (too_long-result class_step t b a f))
 
 pub slice_bounds-fill-count : goal.slice_bounds-fill-count
@@ -58,9 +57,8 @@ pub returns-else-bytes-table : goal.returns-else-bytes-table
 unfolding headed_checked
 returns-else-bytes-table c =
     let accepted : headed_checked true 16383 (start c).args.table.now ≡ Accepted = sym c.check.ensures ∙ c.enum_told-1.given.1 in
-    let tested = c in
-    let t = (start tested).args.table.now in
-    let b = (start tested).args.bytes.now in
+    let t = (start c).args.table.now in
+    let b = (start c).args.bytes.now in
     let a = accepted in
-    let h : length t - 1 ≤ length b = omega (arith, tested.if-bytes-table.false) in
+    let h : length t - 1 ≤ length b = omega (arith, c.if-bytes-table.false) in
     (sym (made class_step t b a (long_enough t a b h)), c.fill.ensures ∙ sym (written t a b h))

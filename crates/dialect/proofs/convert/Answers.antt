@@ -29,8 +29,7 @@ answer-requires c =
 
 pub returns-in-Refused : goal.returns-in-Refused
 returns-in-Refused c =
-    let start = c in
-    let r = refused start.args.table.now start.args.res.now c.r-1.given.0.0 (sym c.check.ensures ∙ c.r-1.given.1) in
+    let r = refused c.args.table.now c.args.res.now c.r-1.given.0.0 (sym c.check.ensures ∙ c.r-1.given.1) in
     (r.reply, r.slice)
 
 pub returns-in-Accepted : goal.returns-in-Accepted

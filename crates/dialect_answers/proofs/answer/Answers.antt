@@ -17,14 +17,8 @@ returns-then-res-eq0 c =
 
 pub finish-requires-2 : goal.finish-requires-2
 finish-requires-2 c =
-    let wrote = c in
-    let tested = wrote in
-    let start = tested in
-    left_finishable (dialect_table start.args.words.now) start.args.res.now (dialect-accepted start.args.words.now start.requires) tested.if-res-eq0.false wrote.write-n.auto.1.0 wrote.write-n.ensures
+    left_finishable (dialect_table c.args.words.now) c.args.res.now (dialect-accepted c.args.words.now c.requires) c.if-res-eq0.false c.write-n.auto.1.0 c.write-n.ensures
 
 pub returns : goal.returns
 returns c =
-    let wrote = c in
-    let tested = wrote in
-    let start = tested in
-    left_given (dialect_table start.args.words.now) start.args.res.now (dialect-accepted start.args.words.now start.requires) tested.if-res-eq0.false wrote.write-n.auto.1.0 wrote.write-n.ensures c.finish-2.ensures
+    left_given (dialect_table c.args.words.now) c.args.res.now (dialect-accepted c.args.words.now c.requires) c.if-res-eq0.false c.write-n.auto.1.0 c.write-n.ensures c.finish-2.ensures

@@ -79,17 +79,16 @@ pub loop-i-preserved : goal.loop-i-preserved
 loop-i-preserved c =
     let told : c.alike.result ≡ alike c.args.driven (reading c.args.samples.now c.args.start c.loop.i) (reading c.args.others.now c.args.other-start c.loop.i) = c.alike.ensures c.args.driven c.before.before.driven-bits.ensures
     ∙ ap₂ (alike c.args.driven) (ap (λ (p : ℕ). get_or c.args.samples.now p 0) c.loop.inv.3) (ap (λ (p : ℕ). get_or c.args.others.now p 0) c.loop.inv.4) in
-    let s = c in
     let i : suc c.loop.i ≡ c.loop.i + 1 = omega arith in
-    let at : c.following-at.result ≡ place (length s.args.samples.now) s.args.start (c.loop.i + 1) =
-    c.following-at.ensures ∙ ap (λ (p : ℕ). cond (ltb (p + 1) (length s.args.samples.now)) (p + 1) s.args.start) c.loop.invariant.3
-    ∙ sym (place_next _ _ c.loop.i s.pre.2) ∙ ap (place (length s.args.samples.now) s.args.start) i in
-    let other : c.following-other.result ≡ place (length s.args.others.now) s.args.other-start (c.loop.i + 1) =
-    c.following-other.ensures ∙ ap (λ (p : ℕ). cond (ltb (p + 1) (length s.args.others.now)) (p + 1) s.args.other-start) c.loop.invariant.4
-    ∙ sym (place_next _ _ c.loop.i s.pre.3) ∙ ap (place (length s.args.others.now) s.args.other-start) i in (
+    let at : c.following-at.result ≡ place (length c.args.samples.now) c.args.start (c.loop.i + 1) =
+    c.following-at.ensures ∙ ap (λ (p : ℕ). cond (ltb (p + 1) (length c.args.samples.now)) (p + 1) c.args.start) c.loop.invariant.3
+    ∙ sym (place_next _ _ c.loop.i c.pre.2) ∙ ap (place (length c.args.samples.now) c.args.start) i in
+    let other : c.following-other.result ≡ place (length c.args.others.now) c.args.other-start (c.loop.i + 1) =
+    c.following-other.ensures ∙ ap (λ (p : ℕ). cond (ltb (p + 1) (length c.args.others.now)) (p + 1) c.args.other-start) c.loop.invariant.4
+    ∙ sym (place_next _ _ c.loop.i c.pre.3) ∙ ap (place (length c.args.others.now) c.args.other-start) i in (
       omega (arith, c.loop-i-test.true),
-      omega (arith, at, place_lt (length s.args.samples.now) s.args.start (c.loop.i + 1) s.pre.2),
-      omega (arith, other, place_lt (length s.args.others.now) s.args.other-start (c.loop.i + 1) s.pre.3),
+      omega (arith, at, place_lt (length c.args.samples.now) c.args.start (c.loop.i + 1) c.pre.2),
+      omega (arith, other, place_lt (length c.args.others.now) c.args.other-start (c.loop.i + 1) c.pre.3),
       at,
       other,
       c.loop.invariant.5 ∙ passed_same _ _ _ _ _ c.loop-i-test.true (sym (told) ∙ not-false c.alike.result c.if-not-alike.false),

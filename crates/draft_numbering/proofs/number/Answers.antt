@@ -56,9 +56,8 @@ bounds-stack-0 c = let pre = c.requires.1 in some_in (root_within pre) pre.stack
 
 pub loop-i-init : goal.loop-i-init
 loop-i-init c =
-    let at-start = c in
-    let pre = at-start.requires.1 in
-    let g = going_start {root = at-start.args.root} at-start.args.stack.now at-start.requires.0 pre.remembered (some_in (root_within pre) pre.stack_long) (zero_of c.if-known-gt0.false) in
+    let pre = c.requires.1 in
+    let g = going_start {root = c.args.root} c.args.stack.now c.requires.0 pre.remembered (some_in (root_within pre) pre.stack_long) (zero_of c.if-known-gt0.false) in
     (refl, refl, refl, refl, root_within pre, going-low pre.few g pre.formula pre.drafted, g)
 
 pub overflow_sub-top : goal.overflow_sub-top

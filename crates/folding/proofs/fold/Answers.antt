@@ -30,11 +30,10 @@ loop-i-smaller c = omega arith
 
 pub loop-i-preserved : goal.loop-i-preserved
 loop-i-preserved c =
-    let at-loop = c in
-    let pre = at-loop.requires in
-    let inv = at-loop.loop-i.invariant in (
+    let pre = c.requires in
+    let inv = c.loop-i.invariant in (
       omega arith,
-      length-set at-loop.loop-i.folded at-loop.loop-i.i c.of-s.result ∙ inv.1,
+      length-set c.loop-i.folded c.loop-i.i c.of-s.result ∙ inv.1,
       rw c.of-s.ensures (folded_next inv.2 (omega (arith, inv.1, pre.room)) (omega (arith, pre.narrow))),
     )
 

@@ -22,18 +22,13 @@ any-requires c =
 
 pub returns-then-any : goal.returns-then-any
 returns-then-any c =
-    let put = c in
-    let then = put in
-    let any = then in
-    let at-start = start (laid any) in
-    placed-true at-start.args.table.now (form-true at-start.args.table.now at-start.pre.bits_are (any.any.ensures.0.some then.if-any.true)) put.pack.ensures put.put.ensures
+    let at-start = start (laid c) in
+    placed-true at-start.args.table.now (form-true at-start.args.table.now at-start.pre.bits_are (c.any.ensures.0.some c.if-any.true)) c.pack.ensures c.put.ensures
 
 pub all-sum-requires : goal.all-sum-requires
 all-sum-requires c =
-    let any = c in
-    let f = laid any in
-    let else = c in
-    (joinable_first (start f).pre f.fill-words.kept.1.0 f.fill-words.ensures any.any.auto.1.1.1.0 any.any.auto.1.1.1.1.0 any.any.ensures.1, (any.any.ensures.0.none else.if-any.false, (start f).pre.few))
+    let f = laid c in
+    (joinable_first (start f).pre f.fill-words.kept.1.0 f.fill-words.ensures c.any.auto.1.1.1.0 c.any.auto.1.1.1.1.0 c.any.ensures.1, (c.any.ensures.0.none c.if-any.false, (start f).pre.few))
 
 pub close-requires : goal.close-requires
 close-requires c =
@@ -41,7 +36,5 @@ close-requires c =
 
 pub returns : goal.returns
 returns c =
-    let close = c in
-    let all = close in
-    let at-start = start (laid (looked all)) in
-    placed_sum at-start.args.table.now at-start.pre.bits_are (close.close.ensures _ (joined at-start.args.table.now (choices at-start.args.bits) (const false)) all.all-sum.ensures)
+    let at-start = start (laid (looked c)) in
+    placed_sum at-start.args.table.now at-start.pre.bits_are (c.close.ensures _ (joined at-start.args.table.now (choices at-start.args.bits) (const false)) c.all-sum.ensures)

@@ -9,21 +9,18 @@ use Rattle.handed_form.proofs.normalise.Goals as goal
 
 pub slice_bounds-source-end : goal.slice_bounds-source-end
 slice_bounds-source-end c =
-    let formed = c in
-    let a = formed.args in
-    source_within a.limits a.source.now a.res.now (sym formed.form.ensures.0 ∙ c.n-1.given.1)
+    let a = c.args in
+    source_within a.limits a.source.now a.res.now (sym c.form.ensures.0 ∙ c.n-1.given.1)
 
 pub slice_bounds-res-end-in-Made : goal.slice_bounds-res-end-in-Made
 slice_bounds-res-end-in-Made c =
-    let formed = c in
-    let a = formed.args in
-    made_within a.limits a.source.now a.res.now (sym formed.form.ensures.0 ∙ c.n-in-Made-1.given.1) formed.form.new.1.1.0 formed.form.auto.1.1.0
+    let a = c.args in
+    made_within a.limits a.source.now a.res.now (sym c.form.ensures.0 ∙ c.n-in-Made-1.given.1) c.form.new.1.1.0 c.form.auto.1.1.0
 
 pub returns-in-Refused : goal.returns-in-Refused
 returns-in-Refused c =
-    let formed = c in
-    let a = formed.args in
-    let told = sym formed.form.ensures.0 ∙ c.why-1.given.1 in
+    let a = c.args in
+    let told = sym c.form.ensures.0 ∙ c.why-1.given.1 in
     let report = c.report_of-report.ensures ∙ ap form_report (sym told) in (
       refused-handed a.limits a.source.now a.res.now told,
       (front_at _ _ _ told refl, (ap (λ (r : Report). r.0) report, ap (λ (r : Report). r.1) report)),
@@ -31,18 +28,16 @@ returns-in-Refused c =
 
 pub returns-in-Source : goal.returns-in-Source
 returns-in-Source c =
-    let formed = c in
-    let a = formed.args in
-    let told = sym formed.form.ensures.0 ∙ c.n-1.given.1 in (
+    let a = c.args in
+    let told = sym c.form.ensures.0 ∙ c.n-1.given.1 in (
       source-handed a.limits a.source.now a.res.now told,
       (front_at _ _ _ told refl, (ap (λ (f : Form). (form_report f).0) (sym told), ap (λ (f : Form). (form_report f).1) (sym told))),
     )
 
 pub returns-in-Made : goal.returns-in-Made
 returns-in-Made c =
-    let formed = c in
-    let a = formed.args in
-    let told = sym formed.form.ensures.0 ∙ c.n-in-Made-1.given.1 in (
-      made_handed a.limits a.source.now a.res.now told formed.form.ensures.1,
+    let a = c.args in
+    let told = sym c.form.ensures.0 ∙ c.n-in-Made-1.given.1 in (
+      made_handed a.limits a.source.now a.res.now told c.form.ensures.1,
       (front_at _ _ _ told refl, (ap (λ (f : Form). (form_report f).0) (sym told), ap (λ (f : Form). (form_report f).1) (sym told))),
     )

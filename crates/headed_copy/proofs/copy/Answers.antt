@@ -25,12 +25,11 @@ bounds-to-i c = search rules
 
 pub loop-i-preserved : goal.loop-i-preserved
 loop-i-preserved c =
-    let at-loop = c in
-    let pre = at-loop.requires in
-    let i = at-loop.loop-i.i in
-    let from = at-loop.args.from.now in
-    let inv = at-loop.loop-i.invariant in
-    (simp length-set inv.0, omega arith, ap (λ (l : List ℕ). set l i (get_or from i 0)) inv.2 ∙ rw add-one (copy_more from at-loop.args.to.now i (omega (arith, pre.0)) (omega (arith, pre.1))))
+    let pre = c.requires in
+    let i = c.loop-i.i in
+    let from = c.args.from.now in
+    let inv = c.loop-i.invariant in
+    (simp length-set inv.0, omega arith, ap (λ (l : List ℕ). set l i (get_or from i 0)) inv.2 ∙ rw add-one (copy_more from c.args.to.now i (omega (arith, pre.0)) (omega (arith, pre.1))))
 
 pub returns : goal.returns
 returns c = let n : c.loop-i.i ≡ c.args.n = omega (arith, c.loop-i.invariant.1) in rw (← n) c.loop-i.invariant.2

@@ -14,14 +14,8 @@ returns-then-res-n c =
 
 pub finish-requires-2 : goal.finish-requires-2
 finish-requires-2 c =
-    let put = c in
-    let tested = put in
-    let start = tested in
-    copied-finishable start.requires start.args.res.now (omega (arith, tested.if-res-n.false)) put.copy.auto.1.0 put.copy.ensures
+    copied-finishable c.requires c.args.res.now (omega (arith, c.if-res-n.false)) c.copy.auto.1.0 c.copy.ensures
 
 pub returns : goal.returns
 returns c =
-    let put = c in
-    let tested = put in
-    let start = tested in
-    copied_given start.requires start.args.res.now (omega (arith, tested.if-res-n.false)) put.copy.auto.1.0 put.copy.ensures c.finish-2.ensures
+    copied_given c.requires c.args.res.now (omega (arith, c.if-res-n.false)) c.copy.auto.1.0 c.copy.ensures c.finish-2.ensures

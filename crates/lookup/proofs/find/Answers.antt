@@ -10,10 +10,9 @@ use Rattle.lookup.proofs.find.Goals as goal
 
 pub loop-n-init : goal.loop-n-init
 loop-n-init c =
-    let s = c in
-    let start : Trail (half_of s.args.index.now) (take (count_of s.args.index.now) s.args.words.now) s.args.w c.wide-n.result =
-    rw (c.wide-n.ensures, c.bucket.ensures.0) (trail_start s.requires.1 s.args.w) in
-    (rw (length-take-le _ _ s.requires.0) at start.within, start)
+    let start : Trail (half_of c.args.index.now) (take (count_of c.args.index.now) c.args.words.now) c.args.w c.wide-n.result =
+    rw (c.wide-n.ensures, c.bucket.ensures.0) (trail_start c.requires.1 c.args.w) in
+    (rw (length-take-le _ _ c.requires.0) at start.within, start)
 
 pub returns-then-words-n : goal.returns-then-words-n
 returns-then-words-n c =
@@ -27,13 +26,12 @@ loop-n-smaller c =
 
 pub loop-n-preserved : goal.loop-n-preserved
 loop-n-preserved c =
-    let s = c in
     let at = c.loop-n in
-    let on : Trail (half_of s.args.index.now) (take (count_of s.args.index.now) s.args.words.now) s.args.w c.wide-n-in-loop-n.result =
+    let on : Trail (half_of c.args.index.now) (take (count_of c.args.index.now) c.args.words.now) c.args.w c.wide-n-in-loop-n.result =
     rw c.wide-n-in-loop-n.ensures
-    (trail_next s.requires.1 _ _ at.invariant.1 (omega arith)
-    (λ e. c.if-words-n.false (sym (get_or-take (count_of s.args.index.now) s.args.words.now (at.n - 1) 0 (omega arith)) ∙ e))) in
-    (rw (length-take-le _ _ s.requires.0) at on.within, on)
+    (trail_next c.requires.1 _ _ at.invariant.1 (omega arith)
+    (λ e. c.if-words-n.false (sym (get_or-take (count_of c.args.index.now) c.args.words.now (at.n - 1) 0 (omega arith)) ∙ e))) in
+    (rw (length-take-le _ _ c.requires.0) at on.within, on)
 
 pub returns : goal.returns
 returns c =

@@ -86,34 +86,26 @@ returns-in-7 c =
     let q : Next c.args.sample c.args.upper c.args.words.now c.args.bytes.now c.args.starts.now c.args.draft.now c.args.j = c.requires in
     let word : WordAt c.args.words.now c.args.j c.read.result.kind c.read.result.left c.read.result.right = c.read.ensures in
     let told : Moving (get_or c.args.bytes.now (c.args.j - 1) 0) (get_or c.args.starts.now c.args.j 0) c.args.upper c.moving-h.result = c.moving-h.ensures.0 in
-    let x = c in
-    let r = x in
-    rw x.next.ensures (next_filled (q) (word) (told) x.in-7.keys1)
+    rw c.next.ensures (next_filled (q) (word) (told) c.in-7.keys1)
 
 pub returns-in-1-to-2 : goal.returns-in-1-to-2
 returns-in-1-to-2 c =
     let q : Next c.args.sample c.args.upper c.args.words.now c.args.bytes.now c.args.starts.now c.args.draft.now c.args.j = c.requires in
     let word : WordAt c.args.words.now c.args.j c.read.result.kind c.read.result.left c.read.result.right = c.read.ensures in
-    let x = c in
-    let r = x in
-    rw x.constant.ensures (constant-filled (q) (word) (omega arith) (omega arith))
+    rw c.constant.ensures (constant-filled (q) (word) (omega arith) (omega arith))
 
 pub returns-in-3-to-4 : goal.returns-in-3-to-4
 returns-in-3-to-4 c =
     let q : Next c.args.sample c.args.upper c.args.words.now c.args.bytes.now c.args.starts.now c.args.draft.now c.args.j = c.requires in
     let word : WordAt c.args.words.now c.args.j c.read.result.kind c.read.result.left c.read.result.right = c.read.ensures in
     let told : Moving (get_or c.args.bytes.now (c.args.j - 1) 0) (get_or c.args.starts.now c.args.j 0) c.args.upper c.moving-h.result = c.moving-h.ensures.0 in
-    let x = c in
-    let r = x in
-    rw x.letter.ensures (letter-filled (q) (word) (told) (omega arith) (omega arith) x.reading.ensures)
+    rw c.letter.ensures (letter-filled (q) (word) (told) (omega arith) (omega arith) c.reading.ensures)
 
 pub returns-in-5-to-6 : goal.returns-in-5-to-6
 returns-in-5-to-6 c =
     let q : Next c.args.sample c.args.upper c.args.words.now c.args.bytes.now c.args.starts.now c.args.draft.now c.args.j = c.requires in
     let word : WordAt c.args.words.now c.args.j c.read.result.kind c.read.result.left c.read.result.right = c.read.ensures in
-    let x = c in
-    let r = x in
-    rw x.junction.ensures (junction-filled (q) (word) (omega arith) (omega arith))
+    rw c.junction.ensures (junction-filled (q) (word) (omega arith) (omega arith))
 
 pub returns-in-8-to-9 : goal.returns-in-8-to-9
 returns-in-8-to-9 c =
@@ -121,10 +113,7 @@ returns-in-8-to-9 c =
     let word : WordAt c.args.words.now c.args.j c.read.result.kind c.read.result.left c.read.result.right = c.read.ensures in
     let told : Moving (get_or c.args.bytes.now (c.args.j - 1) 0) (get_or c.args.starts.now c.args.j 0) c.args.upper c.moving-h.result = c.moving-h.ensures.0 in
     let until_like : Fixpoint conj disj (shape c.read.result.kind) = until_at _ (omega (arith, c.in_default-1.rest)) (omega arith) in
-    let x = c in
-    let then = x in
-    let r = then in
-    rw x.fixpoint.ensures (fixpoint-filled (q) (word) (told) (until_like))
+    rw c.fixpoint.ensures (fixpoint-filled (q) (word) (told) (until_like))
 
 pub returns-in_default : goal.returns-in_default
 returns-in_default c =

@@ -16,9 +16,7 @@ write-requires c =
 pub returns-then-state-eq0 : goal.returns-then-state-eq0
 returns-then-state-eq0 c =
     let few : c.args.total ≤ 16383 = omega (arith, c.if-total-gt16383.false) in
-    let wrote = c in
-    let zero = wrote in
-    start_placed c.requires (few) zero.if-state-eq0.true wrote.write.ensures
+    start_placed c.requires (few) c.if-state-eq0.true c.write.ensures
 
 pub find-word-requires : goal.find-word-requires
 find-word-requires c =
@@ -34,13 +32,9 @@ class_of-class-requires c =
 pub write-requires-2 : goal.write-requires-2
 write-requires-2 c =
     let few : c.args.total ≤ 16383 = omega (arith, c.if-total-gt16383.false) in
-    let found = c in
-    let e = found in
-    state_drawn c.requires (few) found.class_of-class.ensures
+    state_drawn c.requires (few) c.class_of-class.ensures
 
 pub returns : goal.returns
 returns c =
     let few : c.args.total ≤ 16383 = omega (arith, c.if-total-gt16383.false) in
-    let wrote = c in
-    let e = wrote in
-    placed-few c.requires (few) wrote.write-2.ensures
+    placed-few c.requires (few) c.write-2.ensures

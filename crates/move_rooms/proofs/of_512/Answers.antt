@@ -21,10 +21,8 @@ slice_bounds-of_3591-end c =
 pub of_3591-requires : goal.of_3591-requires
 of_3591-requires c =
     let long : 3591 ≡ length c.fill-root.new.1.1.1.1.1.1.1.0 = still_long 3591 c.fill-root.auto.1.1.1.1.1.1.1.0 in
-    let filled = c in
-    let start = filled in
-    let a = start.args in
-    to_number 512 3591 start.requires.1 (as_formula (written_at a.words.now a.state a.sample)) filled.fill-root.ensures.0 (long) (omega arith)
+    let a = c.args in
+    to_number 512 3591 c.requires.1 (as_formula (written_at a.words.now a.state a.sample)) c.fill-root.ensures.0 (long) (omega arith)
 
 pub shape_of-res : goal.shape_of-res
 shape_of-res c = c.of_3591.auto.1.1.0
@@ -32,6 +30,5 @@ shape_of-res c = c.of_3591.auto.1.1.0
 pub returns : goal.returns
 returns c =
     let long : 3591 ≡ length c.fill-root.new.1.1.1.1.1.1.1.0 = still_long 3591 c.fill-root.auto.1.1.1.1.1.1.1.0 in
-    let filled = c in
-    let q = filled.requires in
-    moved 512 3591 q.1 q.0 filled.fill-root.ensures (long) (omega arith) c.of_3591.ensures
+    let q = c.requires in
+    moved 512 3591 q.1 q.0 c.fill-root.ensures (long) (omega arith) c.of_3591.ensures

@@ -43,9 +43,8 @@ answer-requires c =
 pub returns-in-Refused : goal.returns-in-Refused
 returns-in-Refused c =
     let within : is_permitted (start c).args.limits ≡ true = limits_within (start c).args.limits _ c.permitted.ensures c.if-not-permitted.false in
-    let checked = c in
-    let a = (start checked).args in
-    let r = refused a.limits a.table.now a.res.now (within) c.r-1.given.0.0 (sym checked.check.ensures ∙ c.r-1.given.1) in
+    let a = (start c).args in
+    let r = refused a.limits a.table.now a.res.now (within) c.r-1.given.0.0 (sym c.check.ensures ∙ c.r-1.given.1) in
     (r.reply, r.slice)
 
 pub returns-in-Accepted : goal.returns-in-Accepted

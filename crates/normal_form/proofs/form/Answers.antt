@@ -96,9 +96,7 @@ returns-in-Refused c =
     let t : List ℕ = c.args.table.now in
     let result : List ℕ = c.args.res.now in
     let within : is_permitted l ≡ true = limits_within l _ c.permitted.ensures c.if-not-permitted.false in
-    let checked = c in
-    let b = checked in
-    let q = table-refused (l) (t) (result) (within) _ (sym checked.check.ensures ∙ c.r-1.given.1) in
+    let q = table-refused (l) (t) (result) (within) _ (sym c.check.ensures ∙ c.r-1.given.1) in
     (q.reply, q.slice)
 
 pub returns-else-is_normal : goal.returns-else-is_normal

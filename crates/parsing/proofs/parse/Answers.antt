@@ -31,24 +31,20 @@ is_stuck-requires c = search rules
 
 pub returns-then-is_stuck : goal.returns-then-is_stuck
 returns-then-is_stuck c =
-    let at-step = c in
-    let at-loop = at-step in
-    let m = at-step.step-r.ensures in
+    let m = c.step-r.ensures in
     departed _ _ _ m.numbered
-    (going-dead _ _ _ _ at-loop.loop-i.invariant.6 at-step.loop-i-test.true (start at-loop).requires.short m.same (sym c.is_stuck.ensures ∙ c.if-is_stuck.true))
+    (going-dead _ _ _ _ c.loop-i.invariant.6 c.loop-i-test.true (start c).requires.short m.same (sym c.is_stuck.ensures ∙ c.if-is_stuck.true))
 
 pub loop-i-preserved : goal.loop-i-preserved
 loop-i-preserved c =
-    let at-step = c in
-    let at-loop = at-step in
-    let m = at-step.step-r.ensures in (
+    let m = c.step-r.ensures in (
       omega arith,
       omega arith,
       omega arith,
       omega arith,
       m.numbered,
       m.fit,
-      going_more _ _ _ _ at-loop.loop-i.invariant.6 at-step.loop-i-test.true (start at-loop).requires.short m.same (sym c.is_stuck.ensures ∙ c.if-is_stuck.false),
+      going_more _ _ _ _ c.loop-i.invariant.6 c.loop-i-test.true (start c).requires.short m.same (sym c.is_stuck.ensures ∙ c.if-is_stuck.false),
     )
 
 pub step-q-requires : goal.step-q-requires
@@ -60,24 +56,18 @@ step-q-requires c =
 
 pub returns-then-depth-ne0 : goal.returns-then-depth-ne0
 returns-then-depth-ne0 c =
-    let at-step = c in
-    let at-loop = at-step in
-    let m = at-step.step-q.ensures in
-    departed _ _ _ m.numbered (going-early _ _ _ _ at-loop.loop-i.invariant.6 at-step.loop-i-test.false at-loop.loop-i.invariant.3 (start at-loop).requires.short m.same (λ e l. c.if-depth-ne0.true (sym (top-length _ _) ∙ l)))
+    let m = c.step-q.ensures in
+    departed _ _ _ m.numbered (going-early _ _ _ _ c.loop-i.invariant.6 c.loop-i-test.false c.loop-i.invariant.3 (start c).requires.short m.same (λ e l. c.if-depth-ne0.true (sym (top-length _ _) ∙ l)))
 
 pub is_ended-requires : goal.is_ended-requires
 is_ended-requires c = search rules
 
 pub returns-then-is_ended : goal.returns-then-is_ended
 returns-then-is_ended c =
-    let at-step = c in
-    let at-loop = at-step in
-    let m = at-step.step-q.ensures in
-    was_read _ _ m.numbered (going-read _ _ _ _ at-loop.loop-i.invariant.6 at-step.loop-i-test.false at-loop.loop-i.invariant.3 (start at-loop).requires.short m.same (sym c.is_ended.ensures ∙ c.if-is_ended.true) (top-length _ _ ∙ c.if-depth-ne0.false))
+    let m = c.step-q.ensures in
+    was_read _ _ m.numbered (going-read _ _ _ _ c.loop-i.invariant.6 c.loop-i-test.false c.loop-i.invariant.3 (start c).requires.short m.same (sym c.is_ended.ensures ∙ c.if-is_ended.true) (top-length _ _ ∙ c.if-depth-ne0.false))
 
 pub returns : goal.returns
 returns c =
-    let at-step = c in
-    let at-loop = at-step in
-    let m = at-step.step-q.ensures in
-    departed _ _ _ m.numbered (going-early _ _ _ _ at-loop.loop-i.invariant.6 at-step.loop-i-test.false at-loop.loop-i.invariant.3 (start at-loop).requires.short m.same (λ e l. true≢false (sym e ∙ sym c.is_ended.ensures ∙ c.if-is_ended.false)))
+    let m = c.step-q.ensures in
+    departed _ _ _ m.numbered (going-early _ _ _ _ c.loop-i.invariant.6 c.loop-i-test.false c.loop-i.invariant.3 (start c).requires.short m.same (λ e l. true≢false (sym e ∙ sym c.is_ended.ensures ∙ c.if-is_ended.false)))

@@ -76,11 +76,9 @@ join-requires c =
 
 pub returns : goal.returns
 returns c =
-    let j = c in
-    let p = j in
-    let other = j in (
-      part_joined (t p) (choice p) _ (counted p)
-          (j.join.ensures (folded_part (t p) (choice p)) p.part-root.ensures.0
-          (root_standing (t p) (folded p) (choice p) p.part-root.result p.part-root.ensures.0 (few p) (start p).requires.1.0 (λ e. other.if-kind-eq-FALSE.false (other.kind.ensures ∙ e)))),
-      p.part-root.ensures.1,
+    (
+      part_joined (t c) (choice c) _ (counted c)
+          (c.join.ensures (folded_part (t c) (choice c)) c.part-root.ensures.0
+          (root_standing (t c) (folded c) (choice c) c.part-root.result c.part-root.ensures.0 (few c) (start c).requires.1.0 (λ e. c.if-kind-eq-FALSE.false (c.kind.ensures ∙ e)))),
+      c.part-root.ensures.1,
     )

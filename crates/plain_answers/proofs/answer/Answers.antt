@@ -20,25 +20,18 @@ returns-then-res-eq0 c =
 
 pub write-n-requires : goal.write-n-requires
 write-n-requires c =
-    let start = c in
-    let words = start.args.words.now in
+    let words = c.args.words.now in
     record {
-      limit = start.requires.limit;
-      accepted = start.requires.accepted;
-      few = omega (arith, start.requires.small, (accepted-well-formed false start.requires.limit words start.requires.accepted).few);
-      lent = omega (arith, c.lesser-lent.ensures, length-take-le (c.lesser-lent.result - 1) (body start.args.res.now) (omega (arith, c.lesser-lent.ensures, length-drop 1 start.args.res.now)));
+      limit = c.requires.limit;
+      accepted = c.requires.accepted;
+      few = omega (arith, c.requires.small, (accepted-well-formed false c.requires.limit words c.requires.accepted).few);
+      lent = omega (arith, c.lesser-lent.ensures, length-take-le (c.lesser-lent.result - 1) (body c.args.res.now) (omega (arith, c.lesser-lent.ensures, length-drop 1 c.args.res.now)));
     }
 
 pub finish-requires-2 : goal.finish-requires-2
 finish-requires-2 c =
-    let wrote = c in
-    let sized = wrote in
-    let start = sized in
-    form-finishable start.requires start.args.res.now sized.if-res-eq0.false sized.lesser-lent.ensures wrote.write-n.auto.1.0 wrote.write-n.ensures
+    form-finishable c.requires c.args.res.now c.if-res-eq0.false c.lesser-lent.ensures c.write-n.auto.1.0 c.write-n.ensures
 
 pub returns : goal.returns
 returns c =
-    let wrote = c in
-    let sized = wrote in
-    let start = sized in
-    form_given start.requires start.args.res.now sized.if-res-eq0.false sized.lesser-lent.ensures wrote.write-n.auto.1.0 wrote.write-n.ensures c.finish-2.ensures
+    form_given c.requires c.args.res.now c.if-res-eq0.false c.lesser-lent.ensures c.write-n.auto.1.0 c.write-n.ensures c.finish-2.ensures

@@ -13,14 +13,8 @@ returns-then-res-eq0 c =
 
 pub finish-requires-2 : goal.finish-requires-2
 finish-requires-2 c =
-    let formed = c in
-    let tested = formed in
-    let start = tested in
-    form-finishable start.requires start.args.res.now tested.if-res-eq0.false formed.form-n.auto.1.0 formed.form-n.ensures
+    form-finishable c.requires c.args.res.now c.if-res-eq0.false c.form-n.auto.1.0 c.form-n.ensures
 
 pub returns : goal.returns
 returns c =
-    let formed = c in
-    let tested = formed in
-    let start = tested in
-    form_given start.requires start.args.res.now tested.if-res-eq0.false formed.form-n.auto.1.0 formed.form-n.ensures c.finish-2.ensures
+    form_given c.requires c.args.res.now c.if-res-eq0.false c.form-n.auto.1.0 c.form-n.ensures c.finish-2.ensures

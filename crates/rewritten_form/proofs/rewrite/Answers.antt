@@ -11,14 +11,8 @@ answer-requires c =
 
 pub returns-in-Made : goal.returns-in-Made
 returns-in-Made c =
-    let answered = c in
-    let tested = answered in
-    let start = tested in
-    given_made start.requires start.args.res.now tested.past-past.ensures tested.if-past-gt0.false c.n-1.given.1 answered.answer.ensures
+    given_made c.requires c.args.res.now c.past-past.ensures c.if-past-gt0.false c.n-1.given.1 c.answer.ensures
 
 pub returns-in-Refused : goal.returns-in-Refused
 returns-in-Refused c =
-    let answered = c in
-    let tested = answered in
-    let start = tested in
-    given_refused start.requires start.args.res.now tested.past-past.ensures tested.if-past-gt0.false c.r-1.given.1 answered.answer.ensures
+    given_refused c.requires c.args.res.now c.past-past.ensures c.if-past-gt0.false c.r-1.given.1 c.answer.ensures

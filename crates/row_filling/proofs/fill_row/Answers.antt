@@ -33,13 +33,12 @@ slice_bounds-write_word-end c = part_end _ _ _ _ _ _ c.requires.0.0 c.requires.0
 
 pub write_word-requires : goal.write_word-requires
 write_word-requires c =
-    let s = c in
-    let part = part_for _ _ _ _ _ _ s.requires.0.0 s.requires.0.1 c.row_words-words.ensures in
+    let part = part_for _ _ _ _ _ _ c.requires.0.0 c.requires.0.1 c.row_words-words.ensures in
     let lengths = c.requirespare.auto in (
       part,
       (
-        (lengths.1.1.1.1.1.0 ∙ s.requires.1.0.size ∙ sym part.size, lengths.1.1.1.1.1.1.0 ∙ s.requires.1.1.size ∙ sym part.size, start_inside _ _ _ _ _ _ s.requires.0.0 s.requires.0.1 c.row_words-words.ensures),
-        letter_in _ _ _ _ _ _ s.requires.0.0 s.requires.0.1 c.row_words-words.ensures c.of_kind-op.result (c.of_kind-op.ensures ∙ ap (λ k. meaning (shape k)) c.kind.ensures) _ _ c.first_operand.ensures c.right-right.ensures,
+        (lengths.1.1.1.1.1.0 ∙ c.requires.1.0.size ∙ sym part.size, lengths.1.1.1.1.1.1.0 ∙ c.requires.1.1.size ∙ sym part.size, start_inside _ _ _ _ _ _ c.requires.0.0 c.requires.0.1 c.row_words-words.ensures),
+        letter_in _ _ _ _ _ _ c.requires.0.0 c.requires.0.1 c.row_words-words.ensures c.of_kind-op.result (c.of_kind-op.ensures ∙ ap (λ k. meaning (shape k)) c.kind.ensures) _ _ c.first_operand.ensures c.right-right.ensures,
       ),
     )
 

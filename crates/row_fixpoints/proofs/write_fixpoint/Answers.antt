@@ -11,21 +11,18 @@ use Rattle.row_fixpoints.proofs.write_fixpoint.Goals as goal
 
 pub returns-then-everywhere : goal.returns-then-everywhere
 returns-then-everywhere c G P eg ep =
-    let test = c in
-    let L = test.args.positions in
-    c.write_constant.ensures ∙ full-row L G P ((test.everywhere.ensures G P eg ep).0 test.if-everywhere.true)
-    ∙ ap (λ (b : Bool). row L (λ i. sweep G P b i (L - i))) (sym test.if-end.true ∙ test.value_at-end.ensures G P eg ep)
+    let L = c.args.positions in
+    c.write_constant.ensures ∙ full-row L G P ((c.everywhere.ensures G P eg ep).0 c.if-everywhere.true)
+    ∙ ap (λ (b : Bool). row L (λ i. sweep G P b i (L - i))) (sym c.if-end.true ∙ c.value_at-end.ensures G P eg ep)
 
 pub returns-then-settled : goal.returns-then-settled
 returns-then-settled c G P eg ep =
-    let test = c in
-    let L = test.args.positions in
-    c.write_connective.ensures G P eg ep ∙ settled-row L G P _ ((test.settled.ensures G P eg ep).0 test.if-settled.true)
-    ∙ ap (λ (b : Bool). row L (λ i. sweep G P b i (L - i))) (test.value_at-end.ensures G P eg ep)
+    let L = c.args.positions in
+    c.write_connective.ensures G P eg ep ∙ settled-row L G P _ ((c.settled.ensures G P eg ep).0 c.if-settled.true)
+    ∙ ap (λ (b : Bool). row L (λ i. sweep G P b i (L - i))) (c.value_at-end.ensures G P eg ep)
 
 pub returns : goal.returns
 returns c G P eg ep =
-    let test = c in
-    let L = test.args.positions in
+    let L = c.args.positions in
     c.sweep_words.ensures G P eg ep
-    ∙ ap (λ (b : Bool). row L (λ i. sweep G P b i (L - i))) (test.value_at-end.ensures G P eg ep)
+    ∙ ap (λ (b : Bool). row L (λ i. sweep G P b i (L - i))) (c.value_at-end.ensures G P eg ep)

@@ -7,7 +7,6 @@ use Rattle.row_sweeps.proofs.sweep_words.Goals as goal
 
 pub returns : goal.returns
 returns c G P eg ep =
-    let carry = c in
-    let a = carry.args in
-    c.close_words.ensures a.positions _ P (carry.carry_words.ensures G P eg ep) ep
+    let a = c.args in
+    c.close_words.ensures a.positions _ P (c.carry_words.ensures G P eg ep) ep
     ∙ row_ext a.positions _ _ (closed_carried a.positions G P a.end)

@@ -9,6 +9,7 @@ use lib.Bits.{bit_or}
 use Rattle.row_words.specs.Row as rows
 use Rattle.row_words.proofs.Compared.{Tells, tells_none, tells_next, rows_told}
 use Rattle.row_tests.proofs.Unswept.{full-word, ones-word}
+use Rattle.row_tests.proofs.everywhere.Invariants.{either, full}
 use Rattle.row_tests.proofs.everywhere.Goals as goal
 
 pub loop-w-init : goal.loop-w-init

@@ -12,10 +12,10 @@ use Rattle.row_words.proofs.Compared.{Tells, tells_none, tells_next, rows_told}
 use Rattle.row_tests.proofs.Unswept.{full-word, ones-word}
 use Rattle.row_tests.proofs.everywhere.Given as goal
 
-abbrev either : List ℕ → List ℕ → ℕ → ℕ
+abbrev pub either : List ℕ → List ℕ → ℕ → ℕ
 either g p v = bit_or (get_or g v 0) (get_or p v 0)
 
-abbrev full : ℕ → ℕ → ℕ
+abbrev pub full : ℕ → ℕ → ℕ
 full positions v = 2 ^ rows.filled positions v - 1
 
 abbrev pub invariant-loop-w : goal.invariant-loop-w

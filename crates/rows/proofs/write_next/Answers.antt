@@ -9,7 +9,6 @@ use Rattle.rows.proofs.write_next.Goals as goal
 
 pub returns : goal.returns
 returns c F A e =
-    let start = c in
-    let L = start.args.positions in
+    let L = c.args.positions in
     c.shift_words.ensures A e
-    ∙ ap (λ (b : Bool). rows.row L (rows.next L A b)) (c.bit-end.ensures ∙ row-bit L A _ e start.args.start (omega arith))
+    ∙ ap (λ (b : Bool). rows.row L (rows.next L A b)) (c.bit-end.ensures ∙ row-bit L A _ e c.args.start (omega arith))

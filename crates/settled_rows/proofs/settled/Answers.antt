@@ -11,11 +11,8 @@ use Rattle.row_words.specs.Row as rows
 use Rattle.row_words.proofs.Rows.{in_row, inner_next, last_next}
 use Rattle.row_words.proofs.Compared.{Tells, tells_none, tells_next, rows_told}
 use Rattle.settled_rows.proofs.Stepped.{step_word}
+use Rattle.settled_rows.proofs.settled.Invariants.{over, stepped}
 use Rattle.settled_rows.proofs.settled.Goals as goal
-
--- word v after one step, by what comes next at its positions
-abbrev over : List ℕ → List ℕ → ℕ → ℕ → ℕ
-over g p v x = bit_or (get_or g v 0) (bit_and (get_or p v 0) x)
 
 pub loop-w-init : goal.loop-w-init
 loop-w-init c = (omega arith, λ G eg. tells_none _ _)

@@ -14,7 +14,11 @@ use Rattle.row_words.proofs.Compared.{Tells, tells_none, tells_next, rows_told}
 use Rattle.settled_rows.proofs.Stepped.{step_word}
 use Rattle.settled_rows.proofs.settled.Given as goal
 
-abbrev stepped : ℕ → Sequence → Bool → List ℕ → List ℕ → ℕ → ℕ
+-- word v after one step, by what comes next at its positions
+abbrev pub over : List ℕ → List ℕ → ℕ → ℕ → ℕ
+over g p v x = bit_or (get_or g v 0) (bit_and (get_or p v 0) x)
+
+abbrev pub stepped : ℕ → Sequence → Bool → List ℕ → List ℕ → ℕ → ℕ
 stepped L G c g p v = over g p v (rows.word_of L (rows.next L G c) v)
 
 abbrev pub invariant-loop-w : goal.invariant-loop-w

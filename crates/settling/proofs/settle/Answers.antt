@@ -25,24 +25,19 @@ returns-then-not-is_prefix c =
 
 pub pack-requires : goal.pack-requires
 pack-requires c =
-    let at-kind = c in
-    let at-loop = at-kind in
-    let e = at-kind.shared_slice_known-in-loop-top-1.given (at-loop.loop-top.top - 1) in
-    (omega (arith, at-kind.kind-kind.ensures, kind_lt _ e.fits), omega arith, omega (arith, at-loop.loop-top.invariant.2.small))
+    let e = c.shared_slice_known-in-loop-top-1.given (c.loop-top.top - 1) in
+    (omega (arith, c.kind-kind.ensures, kind_lt _ e.fits), omega arith, omega (arith, c.loop-top.invariant.2.small))
 
 pub put-number-requires : goal.put-number-requires
 put-number-requires c = c.loop-top.invariant.2.numbered
 
 pub loop-top-preserved : goal.loop-top-preserved
 loop-top-preserved c =
-    let at-put = c in
-    let at_test = at-put in
-    let at-loop = at_test in
-    let inv = at-loop.loop-top.invariant in (
+    let inv = c.loop-top.invariant in (
       omega arith,
       omega arith,
-      settling_more _ _ _ _ _ _ _ inv.2 at_test.loop-top-test.true (start at-loop).requires.0.room _ _ _ _
-          at_test.kind-kind.ensures at-put.pack.ensures (sym (not-false _ at_test.if-not-is_prefix.false) ∙ at_test.is_prefix.ensures) at-put.put-number.ensures,
+      settling_more _ _ _ _ _ _ _ inv.2 c.loop-top-test.true (start c).requires.0.room _ _ _ _
+          c.kind-kind.ensures c.pack.ensures (sym (not-false _ c.if-not-is_prefix.false) ∙ c.is_prefix.ensures) c.put-number.ensures,
     )
 
 pub returns : goal.returns

@@ -52,10 +52,7 @@ returns-in-Blank c =
 pub returns-in-Constant : goal.returns-in-Constant
 unfolding begin_words
 returns-in-Constant c =
-    let at-end = c in
-    let at_sign = at-end in
-    let at-start = at_sign in
-    end_makes _ at-end.end-o.ensures (rw at-end.pack.ensures (told at-start _ at_sign.sign-1.given.1))
+    end_makes _ c.end-o.ensures (rw c.pack.ensures (told c _ c.sign-1.given.1))
 
 pub returns-in-Letter : goal.returns-in-Letter
 unfolding begin_words
@@ -65,10 +62,7 @@ returns-in-Letter c =
 pub returns-in-Prefix : goal.returns-in-Prefix
 unfolding begin_words
 returns-in-Prefix c =
-    let at_push = c in
-    let at_sign = at_push in
-    let at-start = at_sign in
-    push_makes _ _ _ _ at-start.requires.0.numbered at_push.push.ensures (rw at_push.pack-in-Prefix.ensures (told at-start _ at_sign.sign-in-Prefix-1.given.1))
+    push_makes _ _ _ _ c.requires.0.numbered c.push.ensures (rw c.pack-in-Prefix.ensures (told c _ c.sign-in-Prefix-1.given.1))
 
 pub returns-in-Operator : goal.returns-in-Operator
 unfolding begin_words
@@ -78,10 +72,7 @@ returns-in-Operator c =
 pub returns-in-Open : goal.returns-in-Open
 unfolding begin_words
 returns-in-Open c =
-    let at_push = c in
-    let at_sign = at_push in
-    let at-start = at_sign in
-    push_makes _ _ _ _ at-start.requires.0.numbered at_push.push-in-Open.ensures (told at-start _ at_sign.enum_told-in-Open-1.given.1)
+    push_makes _ _ _ _ c.requires.0.numbered c.push-in-Open.ensures (told c _ c.enum_told-in-Open-1.given.1)
 
 pub returns-in-Close : goal.returns-in-Close
 unfolding begin_words

@@ -29,9 +29,8 @@ stuck-requires-in-Prefix c = search rules
 
 pub join-requires : goal.join-requires
 join-requires c =
-    let at_sign = c in
-    let pre = at_sign.requires in
-    (subst Kinded at_sign.sign-1.given.1 pre.1.0, pre.1.1, omega (arith, pre.0.long, pre.0.room))
+    let pre = c.requires in
+    (subst Kinded c.sign-1.given.1 pre.1.0, pre.1.1, omega (arith, pre.0.long, pre.0.room))
 
 pub stuck-requires-in-Open : goal.stuck-requires-in-Open
 stuck-requires-in-Open c = search rules
@@ -65,10 +64,7 @@ returns-in-Prefix c =
 pub returns-in-Operator : goal.returns-in-Operator
 unfolding follow_words
 returns-in-Operator c =
-    let at_join = c in
-    let at_sign = at_join in
-    let at-start = at_sign in
-    record { numbered = at-start.requires.0.numbered; fit = at_join.join.ensures.1; same = at_join.join.ensures.0 _ ∙ sym (told at-start _ at_sign.sign-1.given.1) }
+    record { numbered = c.requires.0.numbered; fit = c.join.ensures.1; same = c.join.ensures.0 _ ∙ sym (told c _ c.sign-1.given.1) }
 
 pub returns-in-Open : goal.returns-in-Open
 unfolding follow_words
@@ -78,11 +74,8 @@ returns-in-Open c =
 pub returns-in-Close : goal.returns-in-Close
 unfolding follow_words
 returns-in-Close c =
-    let at-close = c in
-    let at_sign = at-close in
-    let at-start = at_sign in
-    let m = at-close.close.ensures in
-    record { numbered = m.numbered; fit = m.fit; same = m.same ∙ sym (told at-start _ at_sign.enum_told-in-Close-1.given.1) }
+    let m = c.close.ensures in
+    record { numbered = m.numbered; fit = m.fit; same = m.same ∙ sym (told c _ c.enum_told-in-Close-1.given.1) }
 
 pub returns-in-Unknown : goal.returns-in-Unknown
 unfolding follow_words

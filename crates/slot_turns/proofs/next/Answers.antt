@@ -50,10 +50,9 @@ returns-then-n-ne0 c =
     let is-kind : c.kind-kind.result ≡ kind (start c).args.s = c.kind-kind.ensures in
     let is_right : c.right-right.result ≡ right (start c).args.s = c.right-right.ensures in
     let counted : arity (shape (kind (start c).args.s)) ≡ c.operands.result = sym (c.operands.ensures ∙ ap (λ (k : ℕ). arity (shape k)) (is-kind)) in
-    let o = c in
-    let n = numbered o (is_right) c.number_of-n.ensures.0 in
+    let n = numbered c (is_right) c.number_of-n.ensures.0 in
     ap Word (c.pack-then-n-ne0.ensures ∙ ap₂ (λ (k b : ℕ). pack k 0 b) (is-kind) n)
-    ∙ sym (unary-word (start o).args.s (start o).args.numbers.now (counted ∙ c.in-1.keys2) (λ e. c.if-n-ne0.true (n ∙ e)))
+    ∙ sym (unary-word (start c).args.s (start c).args.numbers.now (counted ∙ c.in-1.keys2) (λ e. c.if-n-ne0.true (n ∙ e)))
 
 pub number_of-a-requires : goal.number_of-a-requires
 number_of-a-requires c =
@@ -66,9 +65,8 @@ returns-then-a-eq0 c =
     let is-kind : c.kind-kind.result ≡ kind (start c).args.s = c.kind-kind.ensures in
     let is-left : c.left-left.result ≡ left (start c).args.s = c.left-left.ensures in
     let counted : arity (shape (kind (start c).args.s)) ≡ c.operands.result = sym (c.operands.ensures ∙ ap (λ (k : ℕ). arity (shape k)) (is-kind)) in
-    let o = c in
-    let a = numbered o (is-left) c.number_of-a.ensures.0 in
-    ap Operand (is-left) ∙ sym (left_operand (start o).args.s (start o).args.numbers.now (omega (arith, counted, c.in_default.rest)) (sym a ∙ c.if-a-eq0.true))
+    let a = numbered c (is-left) c.number_of-a.ensures.0 in
+    ap Operand (is-left) ∙ sym (left_operand (start c).args.s (start c).args.numbers.now (omega (arith, counted, c.in_default.rest)) (sym a ∙ c.if-a-eq0.true))
 
 pub number_of-b-requires : goal.number_of-b-requires
 number_of-b-requires c =
@@ -82,11 +80,10 @@ returns-then-b-eq0 c =
     let is-left : c.left-left.result ≡ left (start c).args.s = c.left-left.ensures in
     let is_right : c.right-right.result ≡ right (start c).args.s = c.right-right.ensures in
     let counted : arity (shape (kind (start c).args.s)) ≡ c.operands.result = sym (c.operands.ensures ∙ ap (λ (k : ℕ). arity (shape k)) (is-kind)) in
-    let o = c in
-    let a = numbered o (is-left) c.number_of-a.ensures.0 in
-    let b = numbered o (is_right) c.number_of-b.ensures.0 in
+    let a = numbered c (is-left) c.number_of-a.ensures.0 in
+    let b = numbered c (is_right) c.number_of-b.ensures.0 in
     ap Operand (is_right)
-    ∙ sym (right_operand (start o).args.s (start o).args.numbers.now (omega (arith, counted, c.in_default.rest)) (λ e. c.if-a-eq0.false (a ∙ e)) (sym b ∙ c.if-b-eq0.true))
+    ∙ sym (right_operand (start c).args.s (start c).args.numbers.now (omega (arith, counted, c.in_default.rest)) (λ e. c.if-a-eq0.false (a ∙ e)) (sym b ∙ c.if-b-eq0.true))
 
 pub pack-requires-in_default : goal.pack-requires-in_default
 pack-requires-in_default c = search rules
@@ -104,9 +101,8 @@ returns-else-n-ne0 c =
     let is-kind : c.kind-kind.result ≡ kind (start c).args.s = c.kind-kind.ensures in
     let is_right : c.right-right.result ≡ right (start c).args.s = c.right-right.ensures in
     let counted : arity (shape (kind (start c).args.s)) ≡ c.operands.result = sym (c.operands.ensures ∙ ap (λ (k : ℕ). arity (shape k)) (is-kind)) in
-    let o = c in
-    let n = numbered o (is_right) c.number_of-n.ensures.0 in
-    ap Operand (is_right) ∙ sym (unary-operand (start o).args.s (start o).args.numbers.now (counted ∙ c.in-1.keys2) (sym n ∙ c.if-n-ne0.false))
+    let n = numbered c (is_right) c.number_of-n.ensures.0 in
+    ap Operand (is_right) ∙ sym (unary-operand (start c).args.s (start c).args.numbers.now (counted ∙ c.in-1.keys2) (sym n ∙ c.if-n-ne0.false))
 
 pub returns-else-b-eq0 : goal.returns-else-b-eq0
 returns-else-b-eq0 c =
@@ -114,9 +110,8 @@ returns-else-b-eq0 c =
     let is-left : c.left-left.result ≡ left (start c).args.s = c.left-left.ensures in
     let is_right : c.right-right.result ≡ right (start c).args.s = c.right-right.ensures in
     let counted : arity (shape (kind (start c).args.s)) ≡ c.operands.result = sym (c.operands.ensures ∙ ap (λ (k : ℕ). arity (shape k)) (is-kind)) in
-    let o = c in
-    let a = numbered o (is-left) c.number_of-a.ensures.0 in
-    let b = numbered o (is_right) c.number_of-b.ensures.0 in
-    ap Word (c.pack-in_default.ensures ∙ ap (λ (k : ℕ). pack k c.number_of-a.result c.number_of-b.result) (is-kind) ∙ ap₂ (pack (kind (start o).args.s)) a b)
-    ∙ sym (binary-word (start o).args.s (start o).args.numbers.now (omega (arith, counted, c.in_default.rest))
+    let a = numbered c (is-left) c.number_of-a.ensures.0 in
+    let b = numbered c (is_right) c.number_of-b.ensures.0 in
+    ap Word (c.pack-in_default.ensures ∙ ap (λ (k : ℕ). pack k c.number_of-a.result c.number_of-b.result) (is-kind) ∙ ap₂ (pack (kind (start c).args.s)) a b)
+    ∙ sym (binary-word (start c).args.s (start c).args.numbers.now (omega (arith, counted, c.in_default.rest))
     (λ e. c.if-a-eq0.false (a ∙ e)) (λ e. c.if-b-eq0.false (b ∙ e)))

@@ -31,17 +31,13 @@ pub returns-in-1-to-2 : goal.returns-in-1-to-2
 returns-in-1-to-2 c =
     let q : Next c.args.words.now c.args.bytes.now c.args.starts.now c.args.draft.now c.args.j = c.requires in
     let word : WordAt c.args.words.now c.args.j c.read-w.result.kind c.read-w.result.left c.read-w.result.right = c.read-w.ensures in
-    let x = c in
-    let r = x in
-    rw x.store.ensures.set (constant-filled (q) (word) (omega arith) (omega arith))
+    rw c.store.ensures.set (constant-filled (q) (word) (omega arith) (omega arith))
 
 pub returns-in-5-to-6 : goal.returns-in-5-to-6
 returns-in-5-to-6 c =
     let q : Next c.args.words.now c.args.bytes.now c.args.starts.now c.args.draft.now c.args.j = c.requires in
     let word : WordAt c.args.words.now c.args.j c.read-w.result.kind c.read-w.result.left c.read-w.result.right = c.read-w.ensures in
-    let x = c in
-    let r = x in
-    rw x.store-in-5-to-6.ensures.set (junction-filled (q) (word) (omega arith) (omega arith))
+    rw c.store-in-5-to-6.ensures.set (junction-filled (q) (word) (omega arith) (omega arith))
 
 pub returns-in_default : goal.returns-in_default
 returns-in_default c =

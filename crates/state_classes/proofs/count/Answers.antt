@@ -28,6 +28,5 @@ overflow_add-result c =
 
 pub returns : goal.returns
 returns c =
-    let told = c in
-    let a = told.args in
-    read_count a.byte c.level-sigma.ensures c.digit.ensures a.kind (sym told.is_proper.ensures ∙ not-false _ told.if-not-is_proper.false) c.digit-2.ensures
+    let a = c.args in
+    read_count a.byte c.level-sigma.ensures c.digit.ensures a.kind (sym c.is_proper.ensures ∙ not-false _ c.if-not-is_proper.false) c.digit-2.ensures

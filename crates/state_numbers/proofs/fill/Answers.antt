@@ -9,13 +9,11 @@ fill-requires c = let q = c.requires in (accepted-plain 16383 _ q.accepted, q.by
 
 pub number-requires : goal.number-requires
 number-requires c =
-    let filled = c in
-    let q = filled.requires in
-    (bytes_classed _ _ _ q.accepted q.bytes_long filled.fill.ensures, q.starts_long)
+    let q = c.requires in
+    (bytes_classed _ _ _ q.accepted q.bytes_long c.fill.ensures, q.starts_long)
 
 pub returns : goal.returns
 returns c =
     let numbered = c.number in
-    let filled = c in
-    let q = filled.requires in
-    all_filled (bytes_classed _ _ _ q.accepted q.bytes_long filled.fill.ensures) numbered.ensures.0 numbered.ensures.1
+    let q = c.requires in
+    all_filled (bytes_classed _ _ _ q.accepted q.bytes_long c.fill.ensures) numbered.ensures.0 numbered.ensures.1

@@ -31,9 +31,8 @@ pub loop-n-preserved : goal.loop-n-preserved
 loop-n-preserved c =
     let some : 0 < c.loop-n.n = some_before c.args.words.now c.args.state c.loop-n.n c.requires.1 c.loop-n.invariant.1 in
     let before : get_or c.args.starts.now c.loop-n.n 0 ≡ states_before c.args.words.now (pred c.loop-n.n) = start_at c.requires.0 c.loop-n.n some c.loop-n.invariant.0 in
-    let at = c in
-    let e : at.loop-n.n - 1 ≡ pred at.loop-n.n = omega arith in
-    (omega (arith, at.loop-n.invariant.0), rw e (omega (arith, c.loop-n-test.true, before)))
+    let e : c.loop-n.n - 1 ≡ pred c.loop-n.n = omega arith in
+    (omega (arith, c.loop-n.invariant.0), rw e (omega (arith, c.loop-n-test.true, before)))
 
 pub returns : goal.returns
 returns c =

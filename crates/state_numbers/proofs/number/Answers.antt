@@ -37,9 +37,8 @@ loop-i-smaller c = omega (arith, c.loop-i-test.true)
 
 pub loop-i-preserved : goal.loop-i-preserved
 loop-i-preserved c =
-    let test = c in
-    let q = test.loop-i.invariant in
-    (counting_more test.requires.0 q.0 test.loop-i-test.true c.kind.ensures c.count-total.ensures, simp length-set q.1)
+    let q = c.loop-i.invariant in
+    (counting_more c.requires.0 q.0 c.loop-i-test.true c.kind.ensures c.count-total.ensures, simp length-set q.1)
 
 pub shape_of-starts : goal.shape_of-starts
 shape_of-starts c = c.loop-i.invariant.1

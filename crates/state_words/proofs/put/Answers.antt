@@ -26,9 +26,7 @@ class_at-requires c = own-inside _ _ 0 c.count-count.ensures c.loop-k-test.true
 
 pub state_word-requires : goal.state_word-requires
 state_word-requires c =
-    let test = c in
-    let count = test in
-    (own_small _ _ 0 count.count-count.ensures test.loop-k-test.true c.class_at.ensures, c.requires.0)
+    (own_small _ _ 0 c.count-count.ensures c.loop-k-test.true c.class_at.ensures, c.requires.0)
 
 pub overflow_add-res : goal.overflow_add-res
 overflow_add-res c =
@@ -47,17 +45,14 @@ loop-k-smaller c = omega (arith, c.loop-k-test.true)
 
 pub loop-k-preserved : goal.loop-k-preserved
 loop-k-preserved c =
-    let test = c in
-    let at = test in
-    let count = at in
     let a = c.args in
-    let inv = at.loop-k.invariant in
+    let inv = c.loop-k.invariant in
     let own = own_words a.kind a.byte a.number in
-    let word = own_at a.kind a.byte a.number count.count-count.ensures test.loop-k-test.true c.class_at.ensures c.state_word.ensures in
-    let many = own-count a.kind a.byte a.number count.count-count.ensures in (
-      omega (arith, test.loop-k-test.true),
+    let word = own_at a.kind a.byte a.number c.count-count.ensures c.loop-k-test.true c.class_at.ensures c.state_word.ensures in
+    let many = own-count a.kind a.byte a.number c.count-count.ensures in (
+      omega (arith, c.loop-k-test.true),
       simp length-set inv.1,
-      rw (inv.2, word, add-one at.loop-k.k) (paste-suc a.res.now a.at own at.loop-k.k 0 (omega (arith, test.loop-k-test.true, at.if-res-at.false)) (omega (arith, test.loop-k-test.true))),
+      rw (inv.2, word, add-one c.loop-k.k) (paste-suc a.res.now a.at own c.loop-k.k 0 (omega (arith, c.loop-k-test.true, c.if-res-at.false)) (omega (arith, c.loop-k-test.true))),
     )
 
 pub shape_of-res : goal.shape_of-res
@@ -65,7 +60,5 @@ shape_of-res c = c.loop-k.invariant.1
 
 pub returns : goal.returns
 returns c =
-    let at = c in
-    let count = at in
-    let inv = at.loop-k.invariant in
-    put_all _ _ _ _ _ _ count.count-count.ensures c.loop-k-test.false inv.0 inv.1 inv.2
+    let inv = c.loop-k.invariant in
+    put_all _ _ _ _ _ _ c.count-count.ensures c.loop-k-test.false inv.0 inv.1 inv.2

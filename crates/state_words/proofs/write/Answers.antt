@@ -9,6 +9,5 @@ fill-requires c = let q = c.requires in (accepted-plain 16383 _ q.accepted, q.by
 
 pub write_all-requires : goal.write_all-requires
 write_all-requires c =
-    let filled = c in
-    let q = filled.requires in
-    bytes_classed _ _ _ q.accepted q.bytes_long filled.fill.ensures
+    let q = c.requires in
+    bytes_classed _ _ _ q.accepted q.bytes_long c.fill.ensures

@@ -38,7 +38,4 @@ returns-in-Nothing c =
 pub returns-else-p-eq0 : goal.returns-else-p-eq0
 returns-else-p-eq0 c =
     λ φ d st.
-    let put = c in
-    let other = put in
-    let n = other in
-    grown_as (summed n).sum.given.1 c.at-in-At.ensures (join_at φ st _ (n.number-p.ensures φ d) other.if-p-eq0.false put.pack.ensures put.put.ensures)
+    grown_as (summed c).sum.given.1 c.at-in-At.ensures (join_at φ st _ (c.number-p.ensures φ d) c.if-p-eq0.false c.pack.ensures c.put.ensures)

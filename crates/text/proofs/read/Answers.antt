@@ -69,15 +69,12 @@ write-requires c =
     let rule : Formula = (c.parse.ensures.reads c.if-place-ne0.false).0 in
     let is-rule : reading_of (text) ≡ some rule = (c.parse.ensures.reads c.if-place-ne0.false).1 in
     let few : length (table_of rule) ≡ c.count.result = counted c.parse.ensures c.if-place-ne0.false _ c.count.ensures in
-    let at-few = c in
-    let r = at-few in
-    let b = c in
     let p = (c c).parse.ensures in
     let written = (permitted (l) (within)).written in
-    subst Headable (sym (copied p r.if-place-ne0.false _ c.count.ensures)) (record {
+    subst Headable (sym (copied p c.if-place-ne0.false _ c.count.ensures)) (record {
       plain_only = _;
       limit = (l).written;
-      accepted = text-words-accepted (sound (text) (rule) (is-rule)) (l).written (omega (arith, few, at-few.if-limits-n.false)) (omega (arith, written));
+      accepted = text-words-accepted (sound (text) (rule) (is-rule)) (l).written (omega (arith, few, c.if-limits-n.false)) (omega (arith, written));
       small = omega (arith, written);
     })
 
@@ -91,9 +88,5 @@ returns c =
     let rule : Formula = (c.parse.ensures.reads c.if-place-ne0.false).0 in
     let is-rule : reading_of (text) ≡ some rule = (c.parse.ensures.reads c.if-place-ne0.false).1 in
     let few : length (table_of rule) ≡ c.count.result = counted c.parse.ensures c.if-place-ne0.false _ c.count.ensures in
-    let at-write = c in
-    let at-few = at-write in
-    let r = at-few in
-    let b = c in
-    outcome_given (l) (text) (slice) (within) (short c) (rule) (is-rule) (omega (arith, few, at-few.if-limits-n.false))
-    (copied (c c).parse.ensures r.if-place-ne0.false _ c.count.ensures) at-write.write.ensures
+    outcome_given (l) (text) (slice) (within) (short c) (rule) (is-rule) (omega (arith, few, c.if-limits-n.false))
+    (copied (c c).parse.ensures c.if-place-ne0.false _ c.count.ensures) c.write.ensures

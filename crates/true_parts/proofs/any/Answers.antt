@@ -11,12 +11,8 @@ overflow_sub-bits c =
 
 pub each-requires : goal.each-requires
 each-requires c =
-    let o = c in
-    let start = o in
-    (ready_again start.requires.0 o.opened.auto.1.1.1.0 o.opened.auto.1.1.1.1.0 o.opened.ensures.1, start.requires.1.1)
+    (ready_again c.requires.0 c.opened.auto.1.1.1.0 c.opened.auto.1.1.1.1.0 c.opened.ensures.1, c.requires.1.1)
 
 pub returns : goal.returns
 returns c =
-    let o = c in
-    let start = o in
-    (none_opened start.args.table.now start.args.bits start.requires.1.0 (ap (λ x. x - 1) (shifted start.args.bits start.requires.1.1)) o.opened.ensures.0 c.if-opened.false, o.opened.ensures.1)
+    (none_opened c.args.table.now c.args.bits c.requires.1.0 (ap (λ x. x - 1) (shifted c.args.bits c.requires.1.1)) c.opened.ensures.0 c.if-opened.false, c.opened.ensures.1)

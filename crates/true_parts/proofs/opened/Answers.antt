@@ -9,14 +9,11 @@ use Rattle.true_parts.proofs.opened.Goals as goal
 -- the opening form, drafted and then folded
 pub returns : goal.returns
 returns c =
-    let fold = c in
-    let chosen = fold in
-    let start = chosen in
-    let words = chosen.choose_words in
-    let room = start.requires.fillable.room in
-    let last = 5 * length start.args.table.now + 4 in (
-      opened_told start.args.table.now fold.fold.new.1.1.0 start.args.choice last
-          (fold.fold.ensures.slots _ last (omega arith) (rule_opened start.requires.fillable words.auto.1.1.1.0 words.ensures))
+    let words = c.choose_words in
+    let room = c.requires.fillable.room in
+    let last = 5 * length c.args.table.now + 4 in (
+      opened_told c.args.table.now c.fold.new.1.1.0 c.args.choice last
+          (c.fold.ensures.slots _ last (omega arith) (rule_opened c.requires.fillable words.auto.1.1.1.0 words.ensures))
           (omega (arith, room.long, room.narrow)) c.kind.ensures,
       words.ensures.laid,
     )

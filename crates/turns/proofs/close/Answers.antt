@@ -34,37 +34,28 @@ stuck-requires-then-is_prefix c = search rules
 pub returns-then-is_prefix : goal.returns-then-is_prefix
 returns-then-is_prefix c =
     let deep : 0 < c.args.depth = omega (arith, c.if-depth-eq0.false) in
-    let at-kind = c in
-    let at-else = at-kind in
-    stuck-makes _ _ _ at-else.requires.0.numbered c.stuck-then-is_prefix.ensures
-    (close-prefix _ _ _ _ (deep at-else) at-kind.if-e-eq0.false _ at-kind.kind-kind.ensures (sym c.if-is_prefix.true ∙ c.is_prefix.ensures))
+    stuck-makes _ _ _ c.requires.0.numbered c.stuck-then-is_prefix.ensures
+    (close-prefix _ _ _ _ (deep c) c.if-e-eq0.false _ c.kind-kind.ensures (sym c.if-is_prefix.true ∙ c.is_prefix.ensures))
 
 pub left-requires : goal.left-requires
 left-requires c = search rules
 
 pub pack-requires : goal.pack-requires
 pack-requires c =
-    let at-kind = c in
-    let at-start = at-kind in
-    let e = at-kind.shared_slice_known-2-1.given (at-start.args.depth - 1) in
-    let k : at-kind.kind-kind.result < 16 = omega (arith, at-kind.kind-kind.ensures, kind_lt _ e.fits) in
-    let l : c.left.result < 16384 = omega (arith, c.left.ensures, left_lt (get_or at-start.args.stack.now (at-start.args.depth - 1) 0)) in
-    let n : at-start.args.n < 16384 = omega (arith, at-start.requires.1) in
+    let e = c.shared_slice_known-2-1.given (c.args.depth - 1) in
+    let k : c.kind-kind.result < 16 = omega (arith, c.kind-kind.ensures, kind_lt _ e.fits) in
+    let l : c.left.result < 16384 = omega (arith, c.left.ensures, left_lt (get_or c.args.stack.now (c.args.depth - 1) 0)) in
+    let n : c.args.n < 16384 = omega (arith, c.requires.1) in
     (omega arith, omega arith, omega arith)
 
 pub end-o-requires : goal.end-o-requires
 end-o-requires c =
-    let at-else = c in
-    let pre = at-else.requires in
-    record { numbered = pre.0.numbered; long = pre.0.long; wide = pre.0.wide; room = omega (arith, pre.0.room, at-else.if-depth-eq0.false) }
+    let pre = c.requires in
+    record { numbered = pre.0.numbered; long = pre.0.long; wide = pre.0.wide; room = omega (arith, pre.0.room, c.if-depth-eq0.false) }
 
 pub returns : goal.returns
 returns c =
     let deep : 0 < c.args.depth = omega (arith, c.if-depth-eq0.false) in
-    let at-end = c in
-    let at-prefix = at-end in
-    let at-kind = at-prefix in
-    let at-else = at-kind in
-    end_makes 0 at-end.end-o.ensures
-    (close_made _ _ _ _ (deep at-else) at-kind.if-e-eq0.false _ at-kind.kind-kind.ensures (sym at-prefix.if-is_prefix.false ∙ at-prefix.is_prefix.ensures) _ _
-    at-end.left.ensures at-end.pack.ensures)
+    end_makes 0 c.end-o.ensures
+    (close_made _ _ _ _ (deep c) c.if-e-eq0.false _ c.kind-kind.ensures (sym c.if-is_prefix.false ∙ c.is_prefix.ensures) _ _
+    c.left.ensures c.pack.ensures)

@@ -26,18 +26,16 @@ operand-right-requires c = omega (arith, c.requires)
 pub loop-i-preserved : goal.loop-i-preserved
 unfolding formula_of
 loop-i-preserved c =
-    let l = c in
-    let s = l in
-    let t : List ℕ = s.args.table.now in
-    let i : ℕ = l.loop-i.i in
+    let t : List ℕ = c.args.table.now in
+    let i : ℕ = c.loop-i.i in
     let below : i < length t = omega arith in
     let here : c.word_bytes-last.result ≡ counted (get_or (formulas t) i (const false)) =
-    c.word_bytes-last.ensures ∙ next_counted t l.loop-i.sizes i _ _ below (l.shared_slice_known-1.given i).fits l.loop-i.invariant.2
-    (c.operand-left.ensures ∙ ap (earlier (take i l.loop-i.sizes)) c.left.ensures)
-    (c.operand-right.ensures ∙ ap (earlier (take i l.loop-i.sizes)) c.right.ensures) in (
+    c.word_bytes-last.ensures ∙ next_counted t c.loop-i.sizes i _ _ below (c.shared_slice_known-1.given i).fits c.loop-i.invariant.2
+    (c.operand-left.ensures ∙ ap (earlier (take i c.loop-i.sizes)) c.left.ensures)
+    (c.operand-right.ensures ∙ ap (earlier (take i c.loop-i.sizes)) c.right.ensures) in (
       omega arith,
-      length-set l.loop-i.sizes i c.word_bytes-last.result ∙ l.loop-i.invariant.1,
-      rw (add-one i) (more_counted (formulas t) l.loop-i.sizes i c.word_bytes-last.result (omega (arith, length-formulas t)) (omega (arith, s.requires)) l.loop-i.invariant.2 here),
+      length-set c.loop-i.sizes i c.word_bytes-last.result ∙ c.loop-i.invariant.1,
+      rw (add-one i) (more_counted (formulas t) c.loop-i.sizes i c.word_bytes-last.result (omega (arith, length-formulas t)) (omega (arith, c.requires)) c.loop-i.invariant.2 here),
       rw (add-one i) here,
     )
 

@@ -13,29 +13,21 @@ sort-requires c = rw c.kind-kind.ensures (kind_lt c.args.w (omega arith))
 
 pub returns-in-0 : goal.returns-in-0
 returns-in-0 c =
-    let s = c in
-    let o = s in
-    bytes_by _ _ _ _ _ _ _ o.kind-kind.ensures s.sort.ensures o.own-n.ensures.0 (rw c.in-0.keys1 (omega (arith, o.own-n.ensures.1)))
+    bytes_by _ _ _ _ _ _ _ c.kind-kind.ensures c.sort.ensures c.own-n.ensures.0 (rw c.in-0.keys1 (omega (arith, c.own-n.ensures.1)))
 
 pub returns-in-1 : goal.returns-in-1
 returns-in-1 c =
-    let s = c in
-    let o = s in
-    bytes_by _ _ _ _ _ _ _ o.kind-kind.ensures s.sort.ensures o.own-n.ensures.0
-    (rw (c.in-1.keys2, ← c.right.ensures, ← c.digits.ensures.0) (omega (arith, o.own-n.ensures.1, c.digits.ensures.1)))
+    bytes_by _ _ _ _ _ _ _ c.kind-kind.ensures c.sort.ensures c.own-n.ensures.0
+    (rw (c.in-1.keys2, ← c.right.ensures, ← c.digits.ensures.0) (omega (arith, c.own-n.ensures.1, c.digits.ensures.1)))
 
 pub returns-in-2 : goal.returns-in-2
 returns-in-2 c =
-    let s = c in
-    let o = s in
-    bytes_by _ _ _ _ _ _ _ o.kind-kind.ensures s.sort.ensures o.own-n.ensures.0
-    (rw c.in-2.keys3 (omega (arith, c.least.ensures, s.least-b.ensures)))
+    bytes_by _ _ _ _ _ _ _ c.kind-kind.ensures c.sort.ensures c.own-n.ensures.0
+    (rw c.in-2.keys3 (omega (arith, c.least.ensures, c.least-b.ensures)))
 
 pub returns-in_default : goal.returns-in_default
 returns-in_default c =
-    let s = c in
-    let o = s in
     let rest = c.in_default.rest in
-    bytes_by _ _ _ _ _ _ _ o.kind-kind.ensures s.sort.ensures o.own-n.ensures.0
-    (rw (sorted s.sort.result o.own-n.result _ _ _ rest.0.0.1 rest.0.1 rest.1)
-    (omega (arith, c.least-in_default.ensures, s.least-b.ensures, s.least-a.ensures)))
+    bytes_by _ _ _ _ _ _ _ c.kind-kind.ensures c.sort.ensures c.own-n.ensures.0
+    (rw (sorted c.sort.result c.own-n.result _ _ _ rest.0.0.1 rest.0.1 rest.1)
+    (omega (arith, c.least-in_default.ensures, c.least-b.ensures, c.least-a.ensures)))

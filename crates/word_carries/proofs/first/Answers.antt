@@ -5,4 +5,4 @@ use Rattle.word_carries.proofs.first.Goals as goal
 
 pub returns : goal.returns
 returns c G P i eg ep =
-    first_law G P i _ _ _ _ _ c.args.carry (omega arith) c.wrapping_add_u64.ensures c.ones.ensures eg ep
+    first_law G P i _ _ _ _ _ c.args.carry (omega arith) c.wrapping_add_u64.ensures.value c.ones.ensures eg ep

@@ -40,16 +40,14 @@ returns-in-Atomic c =
 pub returns-in-Next : goal.returns-in-Next
 returns-in-Next c =
     let found : Stands (shape (kind (get_or c.args.table.now c.args.j 0))) c.of.result = rw c.kind.ensures at c.of.ensures in
-    let s = c in
     c.next.ensures
-    ∙ ap next_byte (c.operand.ensures ∙ ap (λ (n : ℕ). get_or s.args.bytes.now (n - 1) 0) c.right.ensures)
-    ∙ byte-by_kind _ _ _ s.requires.0 s.requires.1 s.requires.2 kinds.Next (rw c.enum_told-in-Next-1.given.1 at (found))
+    ∙ ap next_byte (c.operand.ensures ∙ ap (λ (n : ℕ). get_or c.args.bytes.now (n - 1) 0) c.right.ensures)
+    ∙ byte-by_kind _ _ _ c.requires.0 c.requires.1 c.requires.2 kinds.Next (rw c.enum_told-in-Next-1.given.1 at (found))
 
 pub returns-in-Binary : goal.returns-in-Binary
 returns-in-Binary c =
     let found : Stands (shape (kind (get_or c.args.table.now c.args.j 0))) c.of.result = rw c.kind.ensures at c.of.ensures in
-    let s = c in
-    let byte : ℕ → ℕ = λ n. get_or s.args.bytes.now (n - 1) 0 in
+    let byte : ℕ → ℕ = λ n. get_or c.args.bytes.now (n - 1) 0 in
     c.binary.ensures
     ∙ ap₂ (operator_byte c.o-1.given.0.0) (c.operand-in-Binary.ensures ∙ ap byte c.left.ensures) (c.operand-in-Binary-2.ensures ∙ ap byte c.right-in-Binary.ensures)
-    ∙ byte-by_kind _ _ _ s.requires.0 s.requires.1 s.requires.2 (kinds.Binary _) (rw c.o-1.given.1 at (found))
+    ∙ byte-by_kind _ _ _ c.requires.0 c.requires.1 c.requires.2 (kinds.Binary _) (rw c.o-1.given.1 at (found))

@@ -13,38 +13,35 @@ use Rattle.class_bytes.proofs.fill.fill.Goals as goal
 
 pub byte_at-requires : goal.byte_at-requires
 byte_at-requires c =
-    let s = c in
     let i : ℕ = c.loop-i.i in
-    let cs : List ℕ = class_bytes s.args.table.now in
-    let h : i ≤ length cs = omega (arith, length-class_bytes s.args.table.now) in (
-      s.requires.0,
+    let cs : List ℕ = class_bytes c.args.table.now in
+    let h : i ≤ length cs = omega (arith, length-class_bytes c.args.table.now) in (
+      c.requires.0,
       omega arith,
       record {
-        room = omega (arith, c.loop-i.invariant, s.requires.1);
-        so_far = ap (take i) c.loop-i.invariant.2 ∙ take_at (take i cs) (drop i s.args.bytes.now) i (length-take-le i cs h);
+        room = omega (arith, c.loop-i.invariant, c.requires.1);
+        so_far = ap (take i) c.loop-i.invariant.2 ∙ take_at (take i cs) (drop i c.args.bytes.now) i (length-take-le i cs h);
       },
     )
 
 pub loop-i-preserved : goal.loop-i-preserved
 loop-i-preserved c =
-    let s = c in
     let inv = c.loop-i.invariant in
     let i : ℕ = c.loop-i.i in
-    let t : List ℕ = s.args.table.now in
-    let d : List ℕ = s.args.bytes.now in
+    let t : List ℕ = c.args.table.now in
+    let d : List ℕ = c.args.bytes.now in
     let below : i < length t = omega arith in (
       omega arith,
       length-set c.loop-i.bytes i c.byte_at.result ∙ inv.1,
       rw (add-one i)
           (ap₂ (λ (l : List ℕ) (v : ℕ). set l i v) inv.2 c.byte_at.ensures
-          ∙ copy_more (class_bytes t) d i (omega (arith, length-class_bytes t)) (omega (arith, s.requires.1))),
+          ∙ copy_more (class_bytes t) d i (omega (arith, length-class_bytes t)) (omega (arith, c.requires.1))),
     )
 
 pub returns : goal.returns
 returns c =
-    let s = c in
     let i : ℕ = c.loop-i.i in
-    let t : List ℕ = s.args.table.now in
+    let t : List ℕ = c.args.table.now in
     let h : i ≡ length t = omega arith in
     c.loop-i.invariant.2
-    ∙ ap₂ ◌++◌ (take_all i (class_bytes t) (omega (arith, length-class_bytes t))) (ap (λ (n : ℕ). drop n s.args.bytes.now) h)
+    ∙ ap₂ ◌++◌ (take_all i (class_bytes t) (omega (arith, length-class_bytes t))) (ap (λ (n : ℕ). drop n c.args.bytes.now) h)

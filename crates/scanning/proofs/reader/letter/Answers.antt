@@ -19,13 +19,12 @@ digit-requires c =
 
 pub returns-then-is_digit : goal.returns-then-is_digit
 returns-then-is_digit c =
-    let at-start = c in
     let d = c.digit.ensures in
     record {
-      numbered = at-start.requires.0.numbered;
+      numbered = c.requires.0.numbered;
       fit = d.1;
       same =
-          ap (λ (k : ℕ). words c.digit.result.left c.digit.result.turn (top_first at-start.args.stack.now k) (written (state at-start.args.out.now at-start.args.index.now))) d.2
+          ap (λ (k : ℕ). words c.digit.result.left c.digit.result.turn (top_first c.args.stack.now k) (written (state c.args.out.now c.args.index.now))) d.2
           ∙ d.0 _ _
           ∙ sym (letter-digit _ _ _ _ (sym c.if-is_digit.true ∙ c.is_digit.ensures));
     }
@@ -49,24 +48,18 @@ sign_of-requires c = search rules
 
 pub follow-requires : goal.follow-requires
 follow-requires c =
-    let at-end = c in
-    let pre = at-end.requires in
-    let e = at-end.end-o.ensures in
-    (record { numbered = e.numbered; long = pre.0.long; wide = omega arith; room = omega (arith, e.few, pre.0.room) }, (sign-kinded at-end.args.b c.sign_of.ensures, e.small))
+    let pre = c.requires in
+    let e = c.end-o.ensures in
+    (record { numbered = e.numbered; long = pre.0.long; wide = omega arith; room = omega (arith, e.few, pre.0.room) }, (sign-kinded c.args.b c.sign_of.ensures, e.small))
 
 pub returns : goal.returns
 returns c =
-    let at-follow = c in
-    let at_sign = at-follow in
-    let at-end = at_sign in
-    let at-pack = at-end in
-    let at-else = at-pack in
-    let m = at-follow.follow.ensures in
+    let m = c.follow.ensures in
     record {
       numbered = m.numbered;
       fit = m.fit;
       same =
           m.same
-          ∙ ap (follow_ended at_sign.sign_of.result) at-end.end-o.ensures.same
-          ∙ sym (letter-ended _ _ _ _ (sym at-else.if-is_digit.false ∙ at-else.is_digit.ensures) at-pack.if-n-eq0.false _ _ at_sign.sign_of.ensures at-pack.pack-w.ensures);
+          ∙ ap (follow_ended c.sign_of.result) c.end-o.ensures.same
+          ∙ sym (letter-ended _ _ _ _ (sym c.if-is_digit.false ∙ c.is_digit.ensures) c.if-n-eq0.false _ _ c.sign_of.ensures c.pack-w.ensures);
     }

@@ -65,27 +65,18 @@ stuck-requires-in-Stuck c = search rules
 
 pub returns-in-Operand : goal.returns-in-Operand
 returns-in-Operand c =
-    let at-made = c in
-    let at_turn = at-made in
-    let at-else = at_turn in
-    let m = at-made.begin.ensures in
-    record { numbered = m.numbered; fit = m.fit; same = m.same ∙ ap (signs at-else turns.Operand) at-made.sign_of.ensures ∙ sym (turned at-else _ at_turn.enum_told-1.given.1) }
+    let m = c.begin.ensures in
+    record { numbered = m.numbered; fit = m.fit; same = m.same ∙ ap (signs c turns.Operand) c.sign_of.ensures ∙ sym (turned c _ c.enum_told-1.given.1) }
 
 pub returns-in-Letter : goal.returns-in-Letter
 returns-in-Letter c =
-    let at-made = c in
-    let at_turn = at-made in
-    let at-else = at_turn in
-    let m = at-made.letter.ensures in
-    record { numbered = m.numbered; fit = m.fit; same = m.same ∙ sym (turned at-else _ at_turn.turn-1.given.1) }
+    let m = c.letter.ensures in
+    record { numbered = m.numbered; fit = m.fit; same = m.same ∙ sym (turned c _ c.turn-1.given.1) }
 
 pub returns-in-Ended : goal.returns-in-Ended
 returns-in-Ended c =
-    let at-made = c in
-    let at_turn = at-made in
-    let at-else = at_turn in
-    let m = at-made.follow.ensures in
-    record { numbered = m.numbered; fit = m.fit; same = m.same ∙ ap (signs at-else (turns.Ended at_turn.turn-in-Ended-1.given.0.0)) at-made.sign_of-in-Ended.ensures ∙ sym (turned at-else _ at_turn.turn-in-Ended-1.given.1) }
+    let m = c.follow.ensures in
+    record { numbered = m.numbered; fit = m.fit; same = m.same ∙ ap (signs c (turns.Ended c.turn-in-Ended-1.given.0.0)) c.sign_of-in-Ended.ensures ∙ sym (turned c _ c.turn-in-Ended-1.given.1) }
 
 pub returns-in-Stuck : goal.returns-in-Stuck
 returns-in-Stuck c =
