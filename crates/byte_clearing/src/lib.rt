@@ -7,7 +7,7 @@ pub fn bytes(bytes: &mut [u8])
     ensures { bytes.new ≡ replicate (length bytes.old) 0 }
 {
     let mut i = 0;
-    while i < bytes.len() {
+    'each: while i < bytes.len() {
         bytes[i] = 0;
         i += 1;
     }

@@ -11,7 +11,7 @@ ghost use Rattle.sums.specs.Summed.{Summed};
 use part_sums::with_part;
 use sums::Sum;
 
-// All choices among so many until_like words, none of whose parts folds to true. The choices run down once for each count.
+// All choices among so many until-like words, none of whose parts folds to true. The choices run down once for each count.
 pub fn all(
     table: &[u32],
     positions: &[u8],

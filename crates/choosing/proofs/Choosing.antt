@@ -78,7 +78,7 @@ pub chosen_none : {t d : List ℕ} (c : ℕ) → Laid t d (length t) → Chosen 
 chosen_none c q = record { laid = q; slots = λ i p. absurd (omega arith) }
 
 module _ {t : List ℕ} {c : ℕ} {d : List ℕ} {i : ℕ} (q : Chosen t c d i) (h : i < length t) where
-  -- of a word that is not until_like the slots are the same whatever the choice
+  -- of a word that is not until-like the slots are the same whatever the choice
   pub chosen_other : kind (get_or t i 0) < 16 → is_fixpoint_word (get_or t i 0) ≡ false → Chosen t c d (suc i)
   chosen_other small e = record { laid = q.laid; slots = λ k l. go k (eq-or-lt_of_le (le_of_suc-le-suc l)) }
     where

@@ -9,7 +9,7 @@ use Rattle.word_slots.specs.WordSlots.{Slotted}
 use Rattle.logic.specs.Bit.{bit}
 use Rattle.fixpoints.specs.Positions.{bit_of, Kept}
 
--- the most slots that the draft of a choice can have, of n words of which k are until_like
+-- the most slots that the draft of a choice can have, of n words of which k are until-like
 abbrev pub slots_for : ℕ → ℕ → ℕ
 slots_for n k = 5 * n + 3 * k + 5
 
@@ -22,7 +22,7 @@ pub record Laid (t d : List ℕ) (n : ℕ) : Type 0 where
   pub true_slot : SlotIs d 1 (pack 2 0 0)
   pub slots : (i : ℕ) → i < n → (chosen : Bool) × Slotted (get_or t i 0) (suc i) chosen d
 
--- the first n words by choice c: until_like ones are chosen by their bits
+-- the first n words by choice c: until-like ones are chosen by their bits
 pub record Chosen (t : List ℕ) (c : ℕ) (d : List ℕ) (n : ℕ) : Type 0 where
   pub laid : Laid t d (length t)
   pub slots : (i : ℕ) → i < n → Slotted (get_or t i 0) (suc i) (bit c (bit_of t i)) d

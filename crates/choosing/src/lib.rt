@@ -4,7 +4,7 @@
 ghost use Rattle.std.specs.Prelude.{length};
 ghost use Rattle.choosing.specs.Filled.{Chosen, Fillable};
 
-// The slots that ask whether their word is chosen, by the choice: those of words that are not until_like do not.
+// The slots that ask whether their word is chosen, by the choice: those of words that are not until-like do not.
 pub fn choose_words(table: &[u32], positions: &[u8], choice: u32, draft: &mut [u64])
     requires { Fillable table.now positions.now draft.old }
     ensures { Chosen table.now choice draft.new (length table.now) }

@@ -13,7 +13,7 @@ use Rattle.table.specs.StepChecks.{letter_checks}
 use Rattle.table.specs.Table.{rule}
 use Rattle.table.specs.Steps.{fixpoints, form_table}
 
--- n words of a plain table, k of them until_like, make a form of at most so many words
+-- n words of a plain table, k of them until-like, make a form of at most so many words
 abbrev pub bound : ℕ → ℕ → ℕ
 bound n k = 2 ^ k * (5 * n + 3 * k + 1) + 2
 

@@ -7,7 +7,7 @@ pub fn words(words: &mut [u32])
     ensures { words.new ≡ replicate (length words.old) 0 }
 {
     let mut i = 0;
-    while i < words.len() {
+    'each: while i < words.len() {
         words[i] = 0;
         i += 1;
     }

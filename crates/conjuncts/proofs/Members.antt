@@ -32,11 +32,11 @@ picked-fixpoint : (x : Fixpoint) (φ : Formula) → picks x φ ≡ true → is_f
 picked-fixpoint Least φ e = rw e
 picked-fixpoint Greatest φ e = or_right (is_least φ) _ e
 
--- a word whose formula is one is until_like
+-- a word whose formula is one is until-like
 pub picked-word : {limit : ℕ} {t : List ℕ} (f : WellFormed true limit t) (i : ℕ) (h : i < length t) (x : Fixpoint)
     → picks x (get_or (formulas t) i (const false)) ≡ true → is_fixpoint_word (get_or t i 0) ≡ true
 picked-word f i h x e = sym (word-fixpoint f i h) ∙ picked-fixpoint x _ e
 
--- and one that is not until_like is neither, whatever its operands stand for
+-- and one that is not until-like is neither, whatever its operands stand for
 pub not_picked : (x : Fixpoint) (w : ℕ) → kind w < 16 → is_fixpoint_word w ≡ false → (a b : Formula) → picks x (word_by w a b) ≡ true → ⊥
 not_picked x w k e a b p = true≢false (sym (picked-fixpoint x (word_by w a b) p) ∙ fixpoint-word w k _ a b ∙ e)

@@ -1,4 +1,4 @@
--- The until_like words counted in rising word number, to the first past the limit.
+-- The until-like words counted in rising word number, to the first past the limit.
 use Prim.Native.Nat.{ℕ, zero, suc, ◌+◌, ◌-◌, ◌≤◌, ◌<◌}
 use native.Mathlib.Omega.{arith}
 use native.Mathlib.Numerals.{add-one}
@@ -13,7 +13,7 @@ use Rattle.refusals.specs.Refusals.{first}
 use Rattle.table.specs.StepChecks.{is_fixpoint_word, fixpoint_checks}
 use Rattle.fixpoint_checks.specs.Past.{Past}
 
--- the checks that are left, with so many until_like words found before place i
+-- the checks that are left, with so many until-like words found before place i
 pub record Counting (t : List ℕ) (limit found i : ℕ) : Type 0 where
   pub within : i ≤ length t
   pub few : found ≤ limit

@@ -1,11 +1,11 @@
-// Check 11: how many until_like words a table may have.
+// Check 11: how many until-like words a table may have.
 #![tactic(auto)]
 
 ghost use Rattle.fixpoint_checks.specs.Past.{Past};
 
 use fixpoints::is_fixpoint;
 
-// The place of the first until_like word past the limit, or 0 where there is none.
+// The place of the first until-like word past the limit, or 0 where there is none.
 pub fn past(table: &[u32], limit: usize) -> usize
     ensures { Past table.now limit result }
 {

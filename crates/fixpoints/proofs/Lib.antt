@@ -1,3 +1,3 @@
--- The until_like words, their bits, and the positions that are kept.
+-- The until-like words, their bits, and the positions that are kept.
 pub mod UntilLike
 pub mod Positions

@@ -1,4 +1,4 @@
--- The until_like words counted in rising word number, and the positions that are kept of them.
+-- The until-like words counted in rising word number, and the positions that are kept of them.
 use Prim.Native.Nat.{ℕ, zero, suc, ◌+◌, ◌-◌, ◌≤◌, ◌<◌}
 use native.Mathlib.Omega.{arith}
 use native.Mathlib.Numerals.{add-one}
@@ -43,7 +43,7 @@ few_words (suc limit) n (w ∷ ws) e = go (is_fixpoint_word w) (few_words limit 
 pub fixpoints-few : {limit : ℕ} {t : List ℕ} (few : ℕ) → WellFormed true limit t → first (fixpoint_checks few 1 t) ≡ Accepted → length (fixpoints t) ≤ few
 fixpoints-few {t = t} few f e = omega (arith, few_words few 1 t e, bits_all f, ap (λ (l : List ℕ). length (keep is_fixpoint_word l)) (take-length t))
 
--- the positions of the first i words are kept, of which so many are until_like
+-- the positions of the first i words are kept, of which so many are until-like
 pub record Keeping (t positions : List ℕ) (bits i : ℕ) : Type 0 where
   pub within : i ≤ length t
   pub bits_are : bits ≡ bit_of t i
@@ -87,7 +87,7 @@ module _ {t positions : List ℕ} (q : Kept t positions (length t)) (i : ℕ) (h
   pub kept_small : get_or positions (i + 1) 0 < 32
   kept_small = rw (add-one i) (omega (arith, q.position i h, q.few, bit_of_rise t (length t - i) i (omega arith)))
 
-  -- the position that is kept of an until_like word is document 01's bit number of it, and the word's formula has that place in the list by which choices are read
+  -- the position that is kept of an until-like word is document 01's bit number of it, and the word's formula has that place in the list by which choices are read
   pub kept_position : {limit : ℕ} → WellFormed true limit t → is_fixpoint_word (get_or t i 0) ≡ true
       → (get_or positions (suc i) 0 ≡ bit_of t i) × (get_or (fixpoints t) (get_or positions (suc i) 0) (const false) ≡ get_or (formulas t) i (const false))
   kept_position f e = (q.position i h, ap (λ (n : ℕ). get_or (fixpoints t) n (const false)) (q.position i h) ∙ bit-listed f i h e)

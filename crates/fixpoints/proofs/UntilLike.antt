@@ -1,4 +1,4 @@
--- The until_like words of an accepted plain table: their formulas in order, and which of them a choice has.
+-- The until-like words of an accepted plain table: their formulas in order, and which of them a choice has.
 use Prim.Native.Nat.{ℕ, zero, suc, ◌+◌, ◌-◌, ◌/◌, ◌%◌, ◌^◌, ◌≤◌, ◌<◌}
 use native.Mathlib.Omega.{arith}
 use native.Mathlib.Nat.{div-div-eq-div-mul, div-one, mul_comm}
@@ -79,7 +79,7 @@ member-chosen p xs y ys c e f g =
     go true = rw e (member_here (keep p (chosen ys (c / 2 ^ length xs / 2))) y)
     go false = absent
 
--- the until_like kinds are those of the fixpoints
+-- the until-like kinds are those of the fixpoints
 fixpoint-shape : (s : Shape) (n : ℕ) (a b : Formula) → is_fixpoint (formula_by s n a b) ≡ (leb 8 (kind_of s) && leb (kind_of s) 11)
 fixpoint-shape none n a b = refl
 fixpoint-shape (constant true) n a b = refl
@@ -106,7 +106,7 @@ module _ {limit : ℕ} {t : List ℕ} (f : WellFormed true limit t) (i : ℕ) (h
   pub word-fixpoint : is_fixpoint (get_or (formulas t) i (const false)) ≡ is_fixpoint_word (get_or t i 0)
   word-fixpoint = rw (accepted-formula f i h) (fixpoint-word (get_or t i 0) (omega (arith, (f.word i h).plain refl)) _ _ _)
 
-  -- one word more is one formula more if it is until_like
+  -- one word more is one formula more if it is until-like
   pub fixpoints_step : fixpoints (take (suc i) t) ≡ fixpoints (take i t) ++ cond (is_fixpoint_word (get_or t i 0)) (get_or (formulas t) i (const false) ∷ []) []
   unfolding fixpoints
   fixpoints_step =
@@ -114,7 +114,7 @@ module _ {limit : ℕ} {t : List ℕ} (f : WellFormed true limit t) (i : ℕ) (h
       ∙ keep_append is_fixpoint (take i (formulas t)) _
       ∙ rw (word-fixpoint, take-formulas i t)
 
--- one word more is one bit more if it is until_like
+-- one word more is one bit more if it is until-like
 one_long : (b : Bool) {A : Type 0} (a : A) → length (cond b (a ∷ []) []) ≡ cond b 1 0
 one_long true a = refl
 one_long false a = refl
@@ -132,7 +132,7 @@ bit_of_rise t zero i e = let q : i ≡ length t = omega arith in rw q (omega ari
 bit_of_rise t (suc k) i e = omega (arith, bit_of_step t i (omega arith), bit_of_rise t k (suc i) (omega arith))
 
 module _ {limit : ℕ} {t : List ℕ} (f : WellFormed true limit t) where
-  -- as many until_like words before a word as fixpoint formulas
+  -- as many until-like words before a word as fixpoint formulas
   pub bits_before : (i : ℕ) → i ≤ length t → length (fixpoints (take i t)) ≡ bit_of t i
   unfolding fixpoints formulas formulas_after
   bits_before zero h = refl
@@ -171,7 +171,7 @@ module _ {limit : ℕ} {t : List ℕ} (f : WellFormed true limit t) where
         let e : get_or (formulas t) (suc i + p.0) (const false) ≡ get_or (formulas t) i (const false) = sym (get_or-drop (suc i) (formulas t) p.0 (const false)) ∙ p.2 in
         omega (arith, formulas-differ f (suc i + p.0) i b h e)
 
-    -- the formula of an until_like word has the word's bit number in the list by which choices are read
+    -- the formula of an until-like word has the word's bit number in the list by which choices are read
     pub bit-listed : is_fixpoint_word (get_or t i 0) ≡ true → get_or (fixpoints t) (bit_of t i) (const false) ≡ get_or (formulas t) i (const false)
     bit-listed e =
         ap (λ (l : List Formula). get_or l (bit_of t i) (const false)) (fixpoints-split e)

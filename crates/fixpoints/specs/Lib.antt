@@ -1,2 +1,2 @@
--- The until_like words of a plain table, and the positions that are kept of them.
+-- The until-like words of a plain table, and the positions that are kept of them.
 pub mod Positions

@@ -1,4 +1,4 @@
--- The bit of each until_like word in the number of a choice, and the positions that are kept of them.
+-- The bit of each until-like word in the number of a choice, and the positions that are kept of them.
 use Rattle.std.specs.Prelude.{ℕ, suc, ◌<◌, ◌≡◌, true, List, length, get_or, take}
 use Rattle.transforms.specs.NormalForm.{keep}
 use Rattle.refusals.specs.declared.Outcome.TheVariants.{Accepted}
@@ -6,8 +6,8 @@ use Rattle.table.specs.Checks.{checked}
 use Rattle.table.specs.Steps.{fixpoints}
 use Rattle.table.specs.StepChecks.{is_fixpoint_word}
 
--- document 01: "Number the until_like words of the plain table from bit 0 upward, in rising word number."
--- The bit number of the word with i words before it: how many of those are until_like
+-- document 01: "Number the until-like words of the plain table from bit 0 upward, in rising word number."
+-- The bit number of the word with i words before it: how many of those are until-like
 abbrev pub bit_of : List ℕ → ℕ → ℕ
 bit_of t i = length (keep is_fixpoint_word (take i t))
 

@@ -1,4 +1,4 @@
-// The until_like words, numbered from bit 0 upward in rising word number.
+// The until-like words, numbered from bit 0 upward in rising word number.
 #![tactic(auto)]
 
 ghost use Rattle.std.specs.Prelude.{◌≡◌, length};
@@ -17,7 +17,7 @@ pub fn is_fixpoint(w: u32) -> bool
     }
 }
 
-// Keeps at each word's number how many until_like words stand before it, which is the bit number of an until_like word, and hands back how
+// Keeps at each word's number how many until-like words stand before it, which is the bit number of an until-like word, and hands back how
 // many there are.
 pub fn count(table: &[u32], positions: &mut [u8]) -> u32
     requires { Keepable table.now positions.old }

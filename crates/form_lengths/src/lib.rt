@@ -4,7 +4,7 @@
 ghost use Rattle.std.specs.Prelude.{◌<◌, min, ◌≡◌};
 ghost use Rattle.form_lengths.specs.Lengths.{most_words};
 
-// As many words as the form of n words, of which so many are until_like, can have, but no more than there is room for.
+// As many words as the form of n words, of which so many are until-like, can have, but no more than there is room for.
 pub fn words(n: usize, bits: u32, room: usize) -> usize
     requires { (n < 16384) × (bits < 32) }
     ensures { result ≡ min (most_words n bits) room }

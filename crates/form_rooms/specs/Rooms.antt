@@ -29,7 +29,7 @@ pub record Accepted (t : List ℕ) : Type 0 where
   pub few : length (fixpoints t) < 32
   pub drafted : draft_size t ≤ most_slots
 
--- with the positions of its until_like words
+-- with the positions of its until-like words
 pub record Positioned (t positions : List ℕ) (bits : ℕ) : Type 0 where
   pub table : Accepted t
   pub kept : Kept t positions (length t)

@@ -12,7 +12,7 @@ ghost use Rattle.form_table.specs.Formable.{Formable};
 use placing::put;
 use table::kinds;
 
-// All choices among the until_like words, of which there are as many as bits.
+// All choices among the until-like words, of which there are as many as bits.
 pub fn form(
     table: &[u32],
     positions: &[u8],

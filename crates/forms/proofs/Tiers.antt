@@ -13,7 +13,7 @@ use Rattle.form_rooms.specs.Rooms.{positions_length, most_slots, Positioned, Siz
 use Rattle.form_lengths.specs.Lengths.{most_words}
 use Rattle.normal_laws.proofs.Promise.{normal-length}
 
--- with the positions of a table's until_like words
+-- with the positions of a table's until-like words
 module _ {t positions : List ℕ} {bits : ℕ} (q : Positioned t positions bits) where
   pub few_words : length t < positions_length
   few_words = omega (arith, q.table.short, (accepted-well-formed true _ _ q.table.accepted).few)

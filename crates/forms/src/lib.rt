@@ -20,7 +20,7 @@ pub fn form(table: &[u32], res: &mut [u32]) -> usize
     write(table, &positions, bits, res)
 }
 
-// With the positions of the until_like words. No more of the result is lent than the form can need. That the function calls itself also keeps
+// With the positions of the until-like words. No more of the result is lent than the form can need. That the function calls itself also keeps
 // the arrays of the rooms out of its frame, and out of its callers' for a table that is its own form: the compiler joins no function with
 // large arrays to one that calls itself.
 fn write(table: &[u32], positions: &[u8], bits: u32, res: &mut [u32]) -> usize

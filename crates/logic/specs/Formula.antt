@@ -14,7 +14,7 @@ pub data Binary : Type 0 where
   conj disj until weak release strong implies : Binary
   deriving Discrete as Binary-discrete
 
--- U and M are least fixpoints, W and R greatest ones (document 01: the until_like words)
+-- U and M are least fixpoints, W and R greatest ones (document 01: the until-like words)
 abbrev pub is_least_op : Binary → Bool
 is_least_op conj = false
 is_least_op disj = false

@@ -467,7 +467,7 @@ module _ {limit : ℕ} {t : List ℕ} (small : limit ≤ 16383) (f : WellFormed 
   unfolding fixpoints
   fixpoints-inner ψ m = (mem_keep is_fixpoint (formulas t) m).0
 
-  -- the length bound, for n words of which k are until_like
+  -- the length bound, for n words of which k are until-like
   pub normal_table-length : length (normal_table t) ≤ 2 ^ length (fixpoints t) * (5 * length t + 3 * length (fixpoints t) + 1) + 2
   unfolding normal_table
   normal_table-length =

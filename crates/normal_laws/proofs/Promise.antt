@@ -40,7 +40,7 @@ module _ (limit : ℕ) (t : List ℕ) (ok : checked true limit t ≡ Accepted) (
   pub folded_letters : (Q : ℕ → Type 0) → Letters Q (rule t) → Letters Q (fold (normal_form (fixpoints t) (rule t)))
   folded_letters Q l = fold-letters Q (normal_form (fixpoints t) (rule t)) (form-letters Q l)
 
-  -- n words of which k are until_like have a form of at most 2 ^ k * (5 n + 3 k + 1) + 2 words
+  -- n words of which k are until-like have a form of at most 2 ^ k * (5 n + 3 k + 1) + 2 words
   pub normal-length : length (normal_table t) ≤ 2 ^ length (fixpoints t) * (5 * length t + 3 * length (fixpoints t) + 1) + 2
   normal-length = normal_table-length small formed
 

@@ -91,7 +91,7 @@ module _ {limit : ℕ} {t : List ℕ} (small : limit ≤ 16383) (f : WellFormed 
       let l : p.0 < length t = omega (arith, p.1, length-formulas t) in
       subst (λ (χ : Formula). Sub χ (rule t)) p.2 (word-sub f (suc p.0) (omega arith) l)
 
-  -- the until_like words number the fixpoint subformulas of the rule
+  -- the until-like words number the fixpoint subformulas of the rule
   pub fixpoints-number : Numbers (fixpoints t) (rule t)
   unfolding fixpoints
   fixpoints-number = numbers_keep (formulas t) complete inside

@@ -1,4 +1,4 @@
--- The choices among so many words are the numbers below a power of two, each of which is given by the bits of the until_like words.
+-- The choices among so many words are the numbers below a power of two, each of which is given by the bits of the until-like words.
 use Prim.Native.Nat.{ℕ, zero, suc, ◌^◌, ◌≤◌, ◌<◌}
 use native.Mathlib.Omega.{arith}
 use native.Mathlib.Nat.{zero-add}
@@ -55,7 +55,7 @@ sub-disjoin [] m = absurd (Memᴰ.not-nil m)
 sub-disjoin (φ ∷ l) m =
     ⊎_elim (λ e. subst (λ (θ : Formula). Sub θ (disjoin (φ ∷ l))) (sym e) (sub_first φ l)) (λ n. sub_each φ l n) (Memᴰ.cases_cons m)
 
--- each bit is that of an until_like word
+-- each bit is that of an until-like word
 pub bit_word_lem : (t : List ℕ) (b n : ℕ) → n ≤ length t → b < bit_of t n → (i : ℕ) × (i < n) × (bit_of t i ≡ b) × (is_fixpoint_word (get_or t i 0) ≡ true)
 bit_word_lem t b zero h l = absurd (omega arith)
 bit_word_lem t b (suc n) h l = go (dec_lt b (bit_of t n)) (is_fixpoint_word (get_or t n 0)) refl (bit_word_lem t b n (omega arith))

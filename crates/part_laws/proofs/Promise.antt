@@ -54,7 +54,7 @@ module _ (limit : ℕ) (t : List ℕ) (ok : checked true limit t ≡ Accepted) (
   numbers : Numbers (fixpoints t) (rule t)
   numbers = fixpoints-number small formed
 
-  -- an until_like word is in M, or in N, exactly where it is chosen
+  -- an until-like word is in M, or in N, exactly where it is chosen
   module _ (c j : ℕ) (u : UntilLike t j) where
     in_least : LeastWord t j → Memᴰ (formula_of (formulas t) j) (least_of (fixpoints t) c) ↔ T (bit c (bit_of t (pred j)))
     unfolding least_of

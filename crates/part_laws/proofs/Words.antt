@@ -1,4 +1,4 @@
--- The until_like words of an accepted plain table by their numbers: their kinds are those of their formulas, and their bits tell which are chosen.
+-- The until-like words of an accepted plain table by their numbers: their kinds are those of their formulas, and their bits tell which are chosen.
 use Prim.Native.Nat.{ℕ, zero, suc, pred, ◌≤◌, ◌<◌}
 use native.Mathlib.Omega.{arith}
 use mathlib.Core.Path.{◌≡◌, refl, sym, ap, subst, ◌∙◌}
@@ -62,7 +62,7 @@ one_of k x y {b} e =
     let is : (z : ℕ) → T (eqb k z) ↔ (k ≡ z) = λ z. (eqb→eq k z, λ q. subst (λ (m : ℕ). T (eqb k m)) q (eqb_refl k)) in
     rw e (Iff.trans (T_or (eqb k x) (eqb k y)) (⊎-iff (is x) (is y)))
 
--- kinds 8 to 11 are those of an until_like word
+-- kinds 8 to 11 are those of an until-like word
 kinded-fixpoint : (t : List ℕ) (j : ℕ) → LeastWord t j ⊎ GreatestWord t j → is_fixpoint_word (get_or t (pred j) 0) ≡ true
 kinded-fixpoint t j (inl (inl e)) = rw e
 kinded-fixpoint t j (inl (inr e)) = rw e
@@ -96,7 +96,7 @@ module _ {limit : ℕ} {t : List ℕ} (f : WellFormed true limit t) where
     unfolding w
     word-greatest = one_of (kind w) 9 10 shaped.1
 
-    -- one that is either is until_like
+    -- one that is either is until-like
     pub until_like : T (is_fixpoint (formula_of (formulas t) j)) → UntilLike t j
     until_like x = record {
       positive = p;
@@ -105,7 +105,7 @@ module _ {limit : ℕ} {t : List ℕ} (f : WellFormed true limit t) where
     }
 
   module _ (j : ℕ) (u : UntilLike t j) where
-    -- an until_like word's formula is one of those numbered
+    -- an until-like word's formula is one of those numbered
     pub word-listed : Memᴰ (formula_of (formulas t) j) (fixpoints t)
     unfolding fixpoints
     word-listed =
@@ -124,7 +124,7 @@ module _ {limit : ℕ} {t : List ℕ} (f : WellFormed true limit t) where
         let same = member-fixpoint f (pred j) (omega (arith, u.positive, u.inside)) q c y (kinded-fixpoint t j u.kinded) in
         rw e (λ m. subst T same (member_of_mem (keep q (chosen (fixpoints t) c)) φ m), λ z. mem_of_member (keep q (chosen (fixpoints t) c)) φ (subst T (sym same) z))
 
-  -- each that is numbered is the formula of an until_like word
+  -- each that is numbered is the formula of an until-like word
   pub listed-word : {ψ : Formula} → Memᴰ ψ (fixpoints t) → (j : ℕ) × UntilLike t j × (formula_of (formulas t) j ≡ ψ)
   unfolding fixpoints formula_of
   listed-word {ψ} m =
@@ -133,7 +133,7 @@ module _ {limit : ℕ} {t : List ℕ} (f : WellFormed true limit t) where
       let h : suc l.0 ≤ length t = omega (arith, l.1, length-formulas t) in
       (suc l.0, until_like (suc l.0) (omega arith) h (rw l.2 k.1), l.2)
 
-  -- each bit is that of an until_like word
+  -- each bit is that of an until-like word
   pub bit-numbered : (b : ℕ) → b < length (fixpoints t) → (j : ℕ) × UntilLike t j × (bit_of t (pred j) ≡ b)
   unfolding formula_of
   bit-numbered b h =

@@ -34,13 +34,13 @@ LeastWord t j = (kind (get_or t (pred j) 0) ≡ 8) ⊎ (kind (get_or t (pred j) 
 abbrev pub GreatestWord : List ℕ → ℕ → Type 0
 GreatestWord t j = (kind (get_or t (pred j) 0) ≡ 9) ⊎ (kind (get_or t (pred j) 0) ≡ 10)
 
--- j is the number of an until_like word
+-- j is the number of an until-like word
 pub record UntilLike (t : List ℕ) (j : ℕ) : Type 0 where
   pub positive : 0 < j
   pub inside : j ≤ length t
   pub kinded : LeastWord t j ⊎ GreatestWord t j
 
--- a choice has chosen word j: the word is until_like, and its bit in the choice is 1
+-- a choice has chosen word j: the word is until-like, and its bit in the choice is 1
 pub record Chosen (t : List ℕ) (c j : ℕ) : Type 0 where
   pub word : UntilLike t j
   pub one : T (bit c (bit_of t (pred j)))

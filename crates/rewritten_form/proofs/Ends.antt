@@ -1,4 +1,4 @@
--- How the normal-form step ends with words that are rewritten: an until_like word past the limit, and a normal form, which fits the result or does not.
+-- How the normal-form step ends with words that are rewritten: an until-like word past the limit, and a normal form, which fits the result or does not.
 use Prim.Native.Nat.{ℕ, ◌+◌, ◌-◌, ◌≤◌, ◌<◌, min}
 use native.Mathlib.Omega.{arith}
 use mathlib.Core.Path.{◌≡◌, ap, ◌∙◌}
@@ -41,7 +41,7 @@ module _ (l : Limits) (t result : List ℕ) where
   unfolding form_of
   ends-formed q = record { reply = ap (λ (x : Answer). form_by x (is_normal (body t)) (length t)) q.reply; slice = q.slice }
 
--- words that are rewritten, of which the first until_like one past the limit was looked for
+-- words that are rewritten, of which the first until-like one past the limit was looked for
 module _ {l : Limits} {words : List ℕ} (w : Rewritable l words) (result : List ℕ) {n : ℕ} (q : Past words l.fixpoints n) where
   checks : first ((normal_step l).checks (headed words)) ≡ first (fixpoint_checks l.fixpoints 1 words)
   checks = form-checked l (headed words) w.permitted w.accepted ∙ ap first (other_checks l (headed words) w.other)

@@ -138,7 +138,7 @@ pub plain-early : (l : Limits) → Early (plain_step l)
 unfolding headed_checked
 plain-early l = stated-early l (record { early = headed-refusal false l.written })
 
--- the checks on until_like words refuse by 11 alone
+-- the checks on until-like words refuse by 11 alone
 fixpoint_refusals : (limit n : ℕ) (ws : List ℕ) → AllRefusals (λ r. number_of r ≡ 11) (fixpoint_checks limit n ws)
 unfolding fixpoint_checks
 fixpoint_refusals limit n [] = tt

@@ -87,7 +87,7 @@ starred =
     ∷ refused (0x101FC001 ∷ 0x30000001 ∷ []) 24 0
     ∷ refused (0x001FC002 ∷ 0x30000001 ∷ 0xD0000001 ∷ []) 24 0
     -- of document 02, N6: a limit outside its range, before all else; a table over the written limit, and a plain one over twice that and two; and the
-    -- first until_like word over the limit
+    -- first until-like word over the limit
     ∷ refused_by (plain_step (house 0 8)) [] 25 0
     ∷ refused_by (plain_step (house 257 8)) [] 25 0
     ∷ refused_by (normal_step (house 64 11)) [] 25 0

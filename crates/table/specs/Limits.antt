@@ -1,11 +1,11 @@
--- The limits of the steps, which a house states: how many words a written table may have, and how many of a plain table's may be until_like.
+-- The limits of the steps, which a house states: how many words a written table may have, and how many of a plain table's may be until-like.
 use Rattle.std.specs.Prelude.{ℕ, ◌+◌, ◌*◌, Bool, ◌&&◌, leb}
 use Rattle.table.specs.declared.settings.Limits.{Limits}
 
 abbrev pub house : ℕ → ℕ → Limits
 house written fixpoints = record { written = written; fixpoints = fixpoints }
 
--- document 01's, which the program keeps: 64 written words, and eight until_like ones
+-- document 01's, which the program keeps: 64 written words, and eight until-like ones
 abbrev pub desk : Limits
 desk = house 64 8
 

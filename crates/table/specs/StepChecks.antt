@@ -9,7 +9,7 @@ use Rattle.table.specs.Checks.{is_proposition, holds_right}
 use Rattle.table.specs.declared.settings.Limits.{Limits}
 use Rattle.table.specs.Limits.{is_permitted, most_words}
 
--- kinds 8 to 11, the until_like words
+-- kinds 8 to 11, the until-like words
 abbrev pub is_fixpoint_word : ℕ → Bool
 is_fixpoint_word w = leb 8 (kind w) && leb (kind w) 11
 
@@ -29,7 +29,7 @@ result_fits words slice = leb words (min slice (suc most_words))
 unfoldable pub result_checks : ℕ → ℕ → List Check
 result_checks words slice = (not (result_fits words slice) ⇒ ResultTooShort) ∷ []
 
--- 11: the place of the first until_like word past the limit; words are numbered from n on
+-- 11: the place of the first until-like word past the limit; words are numbered from n on
 unfoldable pub fixpoint_checks : ℕ → ℕ → List ℕ → List Check
 fixpoint_checks limit n [] = []
 fixpoint_checks zero n (w ∷ ws) = (is_fixpoint_word w ⇒ TooManyFixpoints n) ∷ fixpoint_checks zero (suc n) ws

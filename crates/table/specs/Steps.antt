@@ -19,7 +19,7 @@ class_bytes t = map class_byte (formulas t)
 unfoldable pub plain_table : List ℕ → List ℕ
 plain_table t = table_of (plain true (rule t))
 
--- the until_like words of a plain table, numbered from bit 0 upward in rising word number
+-- the until-like words of a plain table, numbered from bit 0 upward in rising word number
 unfoldable pub fixpoints : List ℕ → List Formula
 fixpoints t = keep is_fixpoint (formulas t)
 

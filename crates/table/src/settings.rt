@@ -1,4 +1,4 @@
-// How long a written table may be, and how many until_like words a plain one may have.
+// How long a written table may be, and how many until-like words a plain one may have.
 #[derive(Clone, Copy)]
 pub struct Limits {
     pub written: usize,

@@ -14,7 +14,7 @@ two_choices : choices 2 ≡ 0 ∷ 2 ∷ 1 ∷ 3 ∷ []
 unfolding choices choices_of ones ones_in
 two_choices = refl
 
--- false W (true M p1), and its until_like words in their order
+-- false W (true M p1), and its until-like words in their order
 abbrev inner : Formula
 inner = bin strong (const true) (lit true 1)
 

@@ -1,4 +1,4 @@
--- Whether the opening form by a choice, and whether the part of one of the choices among k until_like words, folds to true.
+-- Whether the opening form by a choice, and whether the part of one of the choices among k until-like words, folds to true.
 use Rattle.std.specs.Prelude.{ℕ, ◌^◌, ◌<◌, ◌≡◌, Bool, true, false, List}
 use Rattle.logic.specs.Formula.{Formula, const}
 use Rattle.transforms.specs.Rewriting.{opening}

@@ -5,8 +5,8 @@ use lib.ListN.{length}
 use Rattle.logic.proofs.Slices.{Cleared, cleared_none, cleared_more, cleared_all}
 use Rattle.byte_clearing.proofs.bytes.Given as goal
 
-abbrev pub invariant-loop-i : goal.invariant-loop-i
-invariant-loop-i l = Cleared l.initial.bytes l.i l.bytes
+abbrev pub invariant-each : goal.invariant-each
+invariant-each l = Cleared l.initial.bytes l.i l.bytes
 
-abbrev pub decreases-loop-i : goal.decreases-loop-i
-decreases-loop-i l = length l.initial.bytes - l.i
+abbrev pub decreases-each : goal.decreases-each
+decreases-each l = length l.initial.bytes - l.i

@@ -5,11 +5,11 @@ use lib.ListN.{length}
 use Rattle.logic.proofs.Slices.{Cleared, cleared_none, cleared_more, cleared_all}
 use Rattle.clearing.proofs.words.Goals as goal
 
-pub loop-i-init : goal.loop-i-init
-loop-i-init c = cleared_none _
+pub each-init : goal.each-init
+each-init c = cleared_none _
 
-pub loop-i-preserved : goal.loop-i-preserved
-loop-i-preserved c = cleared_more c.loop-i.invariant (omega arith)
+pub each-preserved : goal.each-preserved
+each-preserved c = cleared_more c.each.invariant (omega arith)
 
 pub returns : goal.returns
-returns c = cleared_all c.loop-i.invariant (omega arith)
+returns c = cleared_all c.each.invariant (omega arith)

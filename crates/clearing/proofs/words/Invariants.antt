@@ -5,8 +5,8 @@ use lib.ListN.{length}
 use Rattle.logic.proofs.Slices.{Cleared, cleared_none, cleared_more, cleared_all}
 use Rattle.clearing.proofs.words.Given as goal
 
-abbrev pub invariant-loop-i : goal.invariant-loop-i
-invariant-loop-i l = Cleared l.initial.words l.i l.words
+abbrev pub invariant-each : goal.invariant-each
+invariant-each l = Cleared l.initial.words l.i l.words
 
-abbrev pub decreases-loop-i : goal.decreases-loop-i
-decreases-loop-i l = length l.initial.words - l.i
+abbrev pub decreases-each : goal.decreases-each
+decreases-each l = length l.initial.words - l.i

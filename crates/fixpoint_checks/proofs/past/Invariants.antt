@@ -1,4 +1,4 @@
--- The words so far have at most as many until_like words as the limit says.
+-- The words so far have at most as many until-like words as the limit says.
 use Prim.Native.Nat.{◌-◌}
 use mathlib.Core.Logic.{⊎_elim}
 use lib.ListN.{length}
