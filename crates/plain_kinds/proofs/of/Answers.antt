@@ -18,7 +18,7 @@ Standing y k = Stands (shape k) y
 
 pub returns-in-7 : goal.returns-in-7
 unfolding shape
-returns-in-7 c = rw c.in-7.keys1 for_next
+returns-in-7 c = rw c.in-7.is for_next
 
 pub returns-in-1-to-4 : goal.returns-in-1-to-4
 unfolding shape
