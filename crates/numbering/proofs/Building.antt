@@ -2,14 +2,14 @@
 use Prim.Native.Nat.{ℕ, zero, suc, ◌≤◌, ◌<◌}
 use native.Mathlib.Nat.{not-suc-le-zero}
 use native.Mathlib.Omega.{arith}
-use mathlib.Core.Path.{◌≡◌, refl, sym, ap, ◌∙◌}
+use mathlib.Core.Path.{◌≡◌, refl, sym, ap, subst, ◌∙◌}
 use mathlib.Core.Bool.{Bool}
 use mathlib.Core.List.{List, [], ◌∷◌, ◌++◌, append_assoc, append-nil}
 use lib.ListN.{length, length-append, get_or-append}
 use lib.Seq.{get_or-append_seam}
 use Rattle.logic.specs.Formula.{Formula, Unary, Binary, const, lit, un, bin}
 use Rattle.table.specs.Node.{pack, unary_kind, binary_kind}
-use Rattle.table.specs.Numbering.{put, build, table_of, constant_word, literal_word}
+use Rattle.table.specs.Numbering.{Placed, put, build, table_of, constant_word, literal_word}
 use Rattle.numbering.specs.Held.{Distinct, Word, Held}
 use Rattle.numbering.proofs.Search.{Put, again, fresh, put_cases, put_held, find-word, distinct_snoc, distinct_nil}
 
@@ -111,9 +111,14 @@ build-distinct t (bin o a b) d = rw build-bin (put-distinct _ _ (build-distinct 
 pub build_held : (t : List ℕ) (φ : Formula) → Held (build t φ).table φ (build t φ).number
 build_held t (const b) = rw build-const (put_word t (constant_word b))
 build_held t (lit b p) = rw build-lit (put_word t (literal_word b p))
-build_held t (un o a) = rw build-un ((build t a).number, held_grows a _ (put-grows _ _) (build_held t a), put_word _ _)
+build_held t (un o a) =
+    subst (λ (p : Placed). Held p.table (un o a) p.number) (sym (build-un t o a)) (
+      (build t a).number,
+      held_grows a _ (put-grows _ _) (build_held t a),
+      put_word _ _,
+    )
 build_held t (bin o a b) =
-    rw build-bin (
+    subst (λ (p : Placed). Held p.table (bin o a b) p.number) (sym (build-bin t o a b)) (
       (build t a).number,
       (build (build t a).table b).number,
       held_grows a _ (grows_trans (build-grows (build t a).table b) (put-grows _ _)) (build_held t a),
