@@ -38,3 +38,8 @@ returns-then-constant-6 c = rw (left_at _ _ strong true c.in-11.is c.if-constant
 
 pub returns-else-constant-6 : goal.returns-else-constant-6
 returns-else-constant-6 c = rw (left_at _ _ strong false c.in-11.is c.if-constant-6.false)
+
+pub returns-in_default : goal.returns-in_default
+returns-in_default c =
+    let rest = c.in_default.in_default-own.rest in
+    rw (left_none c.args.kind _ rest.0.0.0.0.0.1 rest.0.0.0.0.1 rest.0.0.0.1 rest.0.0.1 rest.0.1 rest.1)
