@@ -41,5 +41,5 @@ returns-else-constant-6 c = rw (left_at _ _ strong false c.in-11.is c.if-constan
 
 pub returns-in_default : goal.returns-in_default
 returns-in_default c =
-    let rest = c.in_default.rest in
+    let rest = c.in_default.in_default-own.rest in
     rw (left_none c.args.kind _ rest.0.0.0.0.0.1 rest.0.0.0.0.1 rest.0.0.0.1 rest.0.0.1 rest.0.1 rest.1)

@@ -61,4 +61,4 @@ unfolding shape
 returns-in-15 c = rw c.in-15.is
 
 pub returns-in_default : goal.returns-in_default
-returns-in_default c = left_over _ c.in_default.rest
+returns-in_default c = left_over _ c.in_default.in_default-own.rest
