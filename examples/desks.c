@@ -1,7 +1,7 @@
 /* Three desks judge G p1 over recordings, the last of them two; then a fourth desk is named, which has no tally. What is printed is what
  * each call answered, the tally of each desk, and the house's total.
  *
- *     cc -std=c11 -Wall -Wextra -Werror -Iinclude examples/desks.c target/staticlib/libboundary.a -o desks
+ *     cc -std=c11 -Wall -Wextra -Werror -Iinclude examples/desks.c crates/boundary/out/libboundary.a -o desks
  */
 #include "showrule.h"
 

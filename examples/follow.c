@@ -3,7 +3,7 @@
  * writes what remains after the sample to the other. What is printed is the rule's plain form, and then each sample and what remains after
  * it: header and words. Once that is the one word true or false, the rule is decided.
  *
- *     cc -std=c11 -Wall -Wextra -Werror -Iinclude examples/follow.c target/staticlib/libboundary.a -o follow
+ *     cc -std=c11 -Wall -Wextra -Werror -Iinclude examples/follow.c crates/boundary/out/libboundary.a -o follow
  */
 #include "showrule.h"
 

@@ -1,7 +1,7 @@
 /* Prints the normal form of G p1, as document 02 has it: the length, then the header and the words, one a line. G p1 is in Delta-2, so that
  * its own plain table is its form; the form of a rule outside Delta-2 stands in the result.
  *
- *     cc -std=c11 -Wall -Wextra -Werror -Iinclude examples/form.c target/staticlib/libboundary.a -o form
+ *     cc -std=c11 -Wall -Wextra -Werror -Iinclude examples/form.c crates/boundary/out/libboundary.a -o form
  */
 #include "showrule.h"
 

@@ -1,7 +1,7 @@
 /* Prints the normal form of a rule that is typed as text, G p1 where none is named: the length, then the header and the words, one a
  * line. The form of a rule in Delta-2, as G p1, is its plain table; any other is rewritten, to the result.
  *
- *     cc -std=c11 -Wall -Wextra -Werror -Iinclude examples/text.c target/staticlib/libboundary.a -o text
+ *     cc -std=c11 -Wall -Wextra -Werror -Iinclude examples/text.c crates/boundary/out/libboundary.a -o text
  *     ./text '(p1 U p2)'
  */
 #include "showrule.h"

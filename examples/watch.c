@@ -3,7 +3,7 @@
  * table's word that it is of, and whether it is accepting; then the start, and each state's move by each sample of the two letters, as
  * tables without a header in which kind 3 is a state.
  *
- *     cc -std=c11 -Wall -Wextra -Werror -Iinclude examples/watch.c target/staticlib/libboundary.a -o watch
+ *     cc -std=c11 -Wall -Wextra -Werror -Iinclude examples/watch.c crates/boundary/out/libboundary.a -o watch
  */
 #include "showrule.h"
 

@@ -1,4 +1,4 @@
-/* Show rules for desks: the C names of the proved static library (rt staticlib boundary writes target/staticlib/libboundary.a).
+/* Show rules for desks: the C names of the proved static library (rt lib, in crates/boundary, writes out/libboundary.a).
  *
  * A rule is a table of 32-bit words: a header, and then words numbered from 1; document 01 says what they mean. The header is of kind 0,
  * its left field is the class byte of the last word, or 0 where a word of kind 12 to 15 occurs, and its right field the number of words

@@ -1,7 +1,6 @@
 -- Rooms in which nothing is numbered yet.
 use Prim.Native.Nat.{ℕ, ◌/◌, ◌≤◌, ◌<◌}
 use native.Mathlib.Omega.{arith}
-use mathlib.Core.Path.{◌≡◌}
 use mathlib.Core.List.{List}
 use lib.ListN.{length, replicate}
 use Rattle.logic.specs.Formula.{Formula}

@@ -6,7 +6,7 @@ use mathlib.Core.Bool.{cond}
 use mathlib.Core.List.{List}
 use lib.ListN.{length, get_or}
 use Rattle.logic.specs.Formula.{Formula, const, lit, un, bin}
-use Rattle.table.specs.Node.{Shape, none, letter, shape, unary_kind, binary_kind}
+use Rattle.table.specs.Node.{Shape, shape, unary_kind, binary_kind}
 use Rattle.table.specs.Numbering.{put, build}
 use Rattle.table.proofs.Shapes.{shape-unary, shape-binary, shape-constant, shape-letter}
 use Rattle.numbering.specs.Held.{Distinct}

@@ -32,7 +32,7 @@ bucket_lt half w p =
 latest_after_snoc : (half f n : ℕ) (t : List ℕ) (w b : ℕ) → latest_after half f n (t ++ (w ∷ [])) b ≡ cond (eqb (bucket_of half w) b) (suc (n + length t)) (latest_after half f n t b)
 unfolding latest_after
 latest_after_snoc half f n [] w b = simp add-zero
-latest_after_snoc half f n (v ∷ t) w b = latest_after_snoc half _ (suc n) t w b ∙ rw (suc-add, ← add-suc n (length t))
+latest_after_snoc half f n (v ∷ t) w b = latest_after_snoc half (cond (eqb (bucket_of half v) b) (suc n) f) (suc n) t w b ∙ rw (suc-add, ← add-suc n (length t))
 
 latest_none : (half b : ℕ) → latest half [] b ≡ 0
 unfolding latest latest_after

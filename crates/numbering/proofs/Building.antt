@@ -2,7 +2,7 @@
 use Prim.Native.Nat.{ℕ, zero, suc, ◌≤◌, ◌<◌}
 use native.Mathlib.Nat.{not-suc-le-zero}
 use native.Mathlib.Omega.{arith}
-use mathlib.Core.Path.{◌≡◌, refl, sym, ap, subst, ◌∙◌}
+use mathlib.Core.Path.{◌≡◌, refl, sym, ap, ◌∙◌, subst}
 use mathlib.Core.Bool.{Bool}
 use mathlib.Core.List.{List, [], ◌∷◌, ◌++◌, append_assoc, append-nil}
 use lib.ListN.{length, length-append, get_or-append}
@@ -108,17 +108,16 @@ build-distinct t (un o a) d = rw build-un (put-distinct _ _ (build-distinct t a 
 build-distinct t (bin o a b) d = rw build-bin (put-distinct _ _ (build-distinct (build t a).table b (build-distinct t a d)))
 
 -- a formula is held at the number that is answered
+held_along : {x y : Placed} (φ : Formula) → x ≡ y → Held y.table φ y.number → Held x.table φ x.number
+held_along {x} {y} φ e h = subst (λ (b : Placed). Held b.table φ b.number) (sym e) h
+
 pub build_held : (t : List ℕ) (φ : Formula) → Held (build t φ).table φ (build t φ).number
 build_held t (const b) = rw build-const (put_word t (constant_word b))
 build_held t (lit b p) = rw build-lit (put_word t (literal_word b p))
 build_held t (un o a) =
-    subst (λ (p : Placed). Held p.table (un o a) p.number) (sym (build-un t o a)) (
-      (build t a).number,
-      held_grows a _ (put-grows _ _) (build_held t a),
-      put_word _ _,
-    )
+    held_along (un o a) (build-un t o a) ((build t a).number, held_grows a _ (put-grows _ _) (build_held t a), put_word _ _)
 build_held t (bin o a b) =
-    subst (λ (p : Placed). Held p.table (bin o a b) p.number) (sym (build-bin t o a b)) (
+    held_along (bin o a b) (build-bin t o a b) (
       (build t a).number,
       (build (build t a).table b).number,
       held_grows a _ (grows_trans (build-grows (build t a).table b) (put-grows _ _)) (build_held t a),

@@ -25,10 +25,10 @@ slice_bounds-check_sample-start c =
     omega (arith, some)
 
 pub returns-in-Refused : goal.returns-in-Refused
-returns-in-Refused c = sym (table-refused 0 _ _ _ (sym c.check.ensures ∙ c.r-1.given.1))
+returns-in-Refused c = sym (table-refused 0 _ _ _ (sym c.in-Refused.ensures))
 
 pub returns-in-Accepted : goal.returns-in-Accepted
 returns-in-Accepted c =
     let t : List ℕ = c.args.table.now in
-    let told : headed_checked true 16383 t ≡ Accepted = sym c.check.ensures ∙ c.enum_told-1.given.1 in
+    let told : headed_checked true 16383 t ≡ Accepted = sym c.in-Accepted.ensures in
     rw (whole_body (t)) at c.check_sample.ensures ∙ sym (table-accepted 0 _ _ (told))

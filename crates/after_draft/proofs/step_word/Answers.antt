@@ -17,7 +17,7 @@ next-requires c =
     let word : WordAt c.args.table.now c.args.j c.read-w.result.kind c.read-w.result.left c.read-w.result.right = c.read-w.ensures in
     let slots : 3 * c.args.j + 2 < length c.args.draft.now = inside q in
     let small : c.args.j < 16384 = numbered q in
-    (slots, small, (right_unary (q) (word) c.in-7.keys1).below)
+    (slots, small, (right_unary (q) (word) c.in-7.is).below)
 
 pub leaf-requires : goal.leaf-requires
 leaf-requires c =
@@ -76,7 +76,7 @@ pub returns-in-7 : goal.returns-in-7
 returns-in-7 c =
     let q : Next c.args.sample c.args.table.now c.args.draft.now c.args.j = c.requires in
     let word : WordAt c.args.table.now c.args.j c.read-w.result.kind c.read-w.result.left c.read-w.result.right = c.read-w.ensures in
-    rw c.next.ensures (next_filled (q) (word) c.in-7.keys1)
+    rw c.next.ensures (next_filled (q) (word) c.in-7.is)
 
 pub returns-in-1-to-2 : goal.returns-in-1-to-2
 returns-in-1-to-2 c =

@@ -5,10 +5,10 @@ use Rattle.check_rooms.proofs.fault_in.Goals as goal
 pub use_fault-requires : goal.use_fault-requires
 use_fault-requires c =
     let read = c.words_fault in
-    (rw read.auto.1.1.1.0 c.requires.0.numbers, read.ensures.marked c.enum_told-1.given.1)
+    (rw read.auto.1.1.1.0 c.requires.0.numbers, read.ensures.marked c.in-Accepted.is)
 
 pub returns-in-Refused : goal.returns-in-Refused
-returns-in-Refused c = rw (← c.words_fault.ensures.answer, c.r-1.given.1)
+returns-in-Refused c = rw (← c.words_fault.ensures.answer, c.in-Refused.is)
 
 pub returns-in-Accepted : goal.returns-in-Accepted
-returns-in-Accepted c = rw (← c.words_fault.ensures.answer, c.enum_told-1.given.1) c.use_fault.ensures
+returns-in-Accepted c = rw (← c.words_fault.ensures.answer, c.in-Accepted.is) c.use_fault.ensures

@@ -11,15 +11,6 @@ use Rattle.choices.proofs.ChoiceOrder.{so_far, Counted, counted_start, turns, ch
 use Rattle.part_sums.proofs.Parts.{joinable_again}
 use Rattle.choices.proofs.all.Goals as goal
 
-abbrev start : goal.At-loop-ones → goal.Start
-start c = c
-
-abbrev asked : goal.After-slice_known-in-loop-ones-6-1 → goal.After-with_part-sum
-asked c = c
-
-abbrev began : goal.After-slice_known-in-loop-ones-6-1 → goal.In-loop-ones
-began c = (asked c).before.before.before.before.before.before.before
-
 pub overflow_shl-limit : goal.overflow_shl-limit
 overflow_shl-limit c = c.requires.1.1
 
@@ -36,19 +27,24 @@ overflow_sub-choice c = c.loop-ones.invariant.0.some
 pub with_part-sum-requires : goal.with_part-sum-requires
 with_part-sum-requires c =
     let inv = c.loop-ones.invariant in
-    let q = (start c).requires in
-    (joinable_again q.0 inv.1 inv.2 inv.3 inv.4 inv.7 inv.8.numbered, (q.1.0 _ (choice-inside inv.0 (shifted (start c).args.bits q.1.1)), inv.8.small))
+    let q = c.requires in
+    (joinable_again q.0 inv.1 inv.2 inv.3 inv.4 inv.7 inv.8.numbered, (q.1.0 _ (choice-inside inv.0 (shifted c.args.bits q.1.1)), inv.8.small))
 
 pub overflow_add-ones : goal.overflow_add-ones
-overflow_add-ones c = let l = began c in count_fits l.before.loop.inv.0 l.loop-test.taken (start l.before).requires.1.1
+overflow_add-ones c = let l =
+    let began : goal.In-loop-ones = c.before.before.before.before.before.before.before in
+    began in count_fits l.before.loop.inv.0 l.loop-test.taken (l.before).requires.1.1
 
 pub loop-ones-smaller-then-choice-eq0 : goal.loop-ones-smaller-then-choice-eq0
-loop-ones-smaller-then-choice-eq0 c = let l = began c in row_less l.before.loop.inv.0 l.loop-test.taken
+loop-ones-smaller-then-choice-eq0 c = let l =
+    let began : goal.In-loop-ones = c.before.before.before.before.before.before.before in
+    began in row_less l.before.loop.inv.0 l.loop-test.taken
 
 pub loop-ones-preserved-then-choice-eq0 : goal.loop-ones-preserved-then-choice-eq0
 loop-ones-preserved-then-choice-eq0 c =
-    let done = asked c in
-    let l = began c in
+    let began : goal.In-loop-ones = c.before.before.before.before.before.before.before in
+    let done = c in
+    let l = began in
     let inv = l.before.loop.inv in
     let kept = done.with_part.kept.1.1.1.1 in (
       counted-row inv.0 l.loop-test.taken,
@@ -59,16 +55,19 @@ loop-ones-preserved-then-choice-eq0 c =
       kept.1.1.1.1.0 ∙ inv.5,
       kept.1.1.1.1.1.0 ∙ inv.6,
       done.with_part.ensures.1,
-      row-grown _ _ _ _ _ inv.0 (shifted (start l.before).args.bits (start l.before).requires.1.1) c.if-choice-eq0.true inv.8 done.with_part.ensures.0,
+      row-grown _ _ _ _ _ inv.0 (shifted (l.before).args.bits (l.before).requires.1.1) c.if-choice-eq0.true inv.8 done.with_part.ensures.0,
     )
 
 pub loop-ones-smaller : goal.loop-ones-smaller
-loop-ones-smaller c = choice_less (began c).before.loop.inv.0
+loop-ones-smaller c =
+    let began : goal.In-loop-ones = c.before.before.before.before.before.before.before in
+    choice_less began.before.loop.inv.0
 
 pub loop-ones-preserved : goal.loop-ones-preserved
 loop-ones-preserved c =
-    let done = asked c in
-    let l = began c in
+    let began : goal.In-loop-ones = c.before.before.before.before.before.before.before in
+    let done = c in
+    let l = began in
     let inv = l.before.loop.inv in
     let kept = done.with_part.kept.1.1.1.1 in (
       counted-choice inv.0 l.loop-test.taken c.if-choice-eq0.false,

@@ -11,23 +11,23 @@ use Rattle.chosen_forms.proofs.Rewritten.{of_constant, of_letter, of_next, of_bi
 use Rattle.chosen_forms.proofs.recurring.Goals as goal
 
 pub returns-in-7 : goal.returns-in-7
-returns-in-7 c = of_next Recurring c.kind-kind.ensures c.in-7.keys1 c.next.ensures
+returns-in-7 c = of_next Recurring c.kind-kind.ensures c.in-7.is c.next.ensures
 
 pub returns-then-chosen : goal.returns-then-chosen
 unfolding recurring
-returns-then-chosen c = of_binary Recurring c.kind-kind.ensures weak c.in-9.keys2 (λ M N a b h g. rw (g refl, c.if-chosen.true) c.pack.ensures)
+returns-then-chosen c = of_binary Recurring c.kind-kind.ensures weak c.in-9.is (λ M N a b h g. rw (g refl, c.if-chosen.true) c.pack.ensures)
 
 pub returns-else-chosen : goal.returns-else-chosen
 unfolding recurring
-returns-else-chosen c = of_binary Recurring c.kind-kind.ensures weak c.in-9.keys2 (λ M N a b h g. rw (g refl, c.if-chosen.false) c.operator.ensures)
+returns-else-chosen c = of_binary Recurring c.kind-kind.ensures weak c.in-9.is (λ M N a b h g. rw (g refl, c.if-chosen.false) c.operator.ensures)
 
 pub returns-then-chosen-2 : goal.returns-then-chosen-2
 unfolding recurring
-returns-then-chosen-2 c = of_binary Recurring c.kind-kind.ensures release c.in-10.keys3 (λ M N a b h g. rw (g refl, c.if-chosen-2.true) c.pack-then-chosen-2.ensures)
+returns-then-chosen-2 c = of_binary Recurring c.kind-kind.ensures release c.in-10.is (λ M N a b h g. rw (g refl, c.if-chosen-2.true) c.pack-then-chosen-2.ensures)
 
 pub returns-else-chosen-2 : goal.returns-else-chosen-2
 unfolding recurring
-returns-else-chosen-2 c = of_binary Recurring c.kind-kind.ensures release c.in-10.keys3 (λ M N a b h g. rw (g refl, c.if-chosen-2.false) c.operator-else-chosen-2.ensures)
+returns-else-chosen-2 c = of_binary Recurring c.kind-kind.ensures release c.in-10.is (λ M N a b h g. rw (g refl, c.if-chosen-2.false) c.operator-else-chosen-2.ensures)
 
 pub returns-in-1-to-2 : goal.returns-in-1-to-2
 returns-in-1-to-2 c = of_constant Recurring c.kind-kind.ensures (omega arith) (omega arith) c.pack-in-1-to-2.ensures

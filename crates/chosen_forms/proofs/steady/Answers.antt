@@ -9,23 +9,23 @@ use Rattle.chosen_forms.proofs.Rewritten.{of_constant, of_letter, of_next, of_bi
 use Rattle.chosen_forms.proofs.steady.Goals as goal
 
 pub returns-in-7 : goal.returns-in-7
-returns-in-7 c = of_next Steady c.kind-kind.ensures c.in-7.keys1 c.next.ensures
+returns-in-7 c = of_next Steady c.kind-kind.ensures c.in-7.is c.next.ensures
 
 pub returns-then-chosen : goal.returns-then-chosen
 unfolding steady
-returns-then-chosen c = of_binary Steady c.kind-kind.ensures until c.in-8.keys2 (λ M N a b h g. rw (h refl, c.if-chosen.true) c.operator.ensures)
+returns-then-chosen c = of_binary Steady c.kind-kind.ensures until c.in-8.is (λ M N a b h g. rw (h refl, c.if-chosen.true) c.operator.ensures)
 
 pub returns-else-chosen : goal.returns-else-chosen
 unfolding steady
-returns-else-chosen c = of_binary Steady c.kind-kind.ensures until c.in-8.keys2 (λ M N a b h g. rw (h refl, c.if-chosen.false) c.pack.ensures)
+returns-else-chosen c = of_binary Steady c.kind-kind.ensures until c.in-8.is (λ M N a b h g. rw (h refl, c.if-chosen.false) c.pack.ensures)
 
 pub returns-then-chosen-2 : goal.returns-then-chosen-2
 unfolding steady
-returns-then-chosen-2 c = of_binary Steady c.kind-kind.ensures strong c.in-11.keys3 (λ M N a b h g. rw (h refl, c.if-chosen-2.true) c.operator-then-chosen-2.ensures)
+returns-then-chosen-2 c = of_binary Steady c.kind-kind.ensures strong c.in-11.is (λ M N a b h g. rw (h refl, c.if-chosen-2.true) c.operator-then-chosen-2.ensures)
 
 pub returns-else-chosen-2 : goal.returns-else-chosen-2
 unfolding steady
-returns-else-chosen-2 c = of_binary Steady c.kind-kind.ensures strong c.in-11.keys3 (λ M N a b h g. rw (h refl, c.if-chosen-2.false) c.pack-else-chosen-2.ensures)
+returns-else-chosen-2 c = of_binary Steady c.kind-kind.ensures strong c.in-11.is (λ M N a b h g. rw (h refl, c.if-chosen-2.false) c.pack-else-chosen-2.ensures)
 
 pub returns-in-1-to-2 : goal.returns-in-1-to-2
 returns-in-1-to-2 c = of_constant Steady c.kind-kind.ensures (omega arith) (omega arith) c.pack-in-1-to-2.ensures

@@ -13,52 +13,49 @@ use Rattle.heading.proofs.Order.{some_word}
 use Rattle.classes.proofs.Room.{too_short, enough, long_enough, written}
 use Rattle.classes.proofs.classify.Goals as goal
 
-abbrev start : goal.In-Accepted → goal.Start
-start c = c
-
 pub overflow_sub-table : goal.overflow_sub-table
 overflow_sub-table c =
-    let accepted : headed_checked true 16383 (start c).args.table.now ≡ Accepted = sym c.check.ensures ∙ c.enum_told-1.given.1 in
+    let accepted : headed_checked true 16383 c.args.table.now ≡ Accepted = sym c.in-Accepted.ensures in
     omega (arith, some_word _ _ _ (accepted))
 
 pub returns-then-bytes-table : goal.returns-then-bytes-table
 unfolding headed_checked
 returns-then-bytes-table c =
-    let accepted : headed_checked true 16383 (start c).args.table.now ≡ Accepted = sym c.check.ensures ∙ c.enum_told-1.given.1 in
-    let t = (start c).args.table.now in
-    let b = (start c).args.bytes.now in
+    let accepted : headed_checked true 16383 c.args.table.now ≡ Accepted = sym c.in-Accepted.ensures in
+    let t = c.args.table.now in
+    let b = c.args.bytes.now in
     let a = accepted in
     let f = too_short t a b (omega (arith, c.if-bytes-table.true)) in
     (sym (too_long class_step t b a f), c.bytes.ensures ∙ sym (too_long-result class_step t b a f))
 
 pub slice_bounds-fill-count : goal.slice_bounds-fill-count
 slice_bounds-fill-count c =
-    let accepted : headed_checked true 16383 (start c).args.table.now ≡ Accepted = sym c.check.ensures ∙ c.enum_told-1.given.1 in
+    let accepted : headed_checked true 16383 c.args.table.now ≡ Accepted = sym c.in-Accepted.ensures in
     omega (arith, some_word _ _ _ (accepted))
 
 pub slice_bounds-fill-start : goal.slice_bounds-fill-start
 slice_bounds-fill-start c =
-    let accepted : headed_checked true 16383 (start c).args.table.now ≡ Accepted = sym c.check.ensures ∙ c.enum_told-1.given.1 in
+    let accepted : headed_checked true 16383 c.args.table.now ≡ Accepted = sym c.in-Accepted.ensures in
     omega (arith, some_word _ _ _ (accepted))
 
 pub fill-requires : goal.fill-requires
 fill-requires c =
-    let accepted : headed_checked true 16383 (start c).args.table.now ≡ Accepted = sym c.check.ensures ∙ c.enum_told-1.given.1 in
-    enough (start c).args.table.now (accepted) (start c).args.bytes.now (omega (arith, c.if-bytes-table.false))
+    let accepted : headed_checked true 16383 c.args.table.now ≡ Accepted = sym c.in-Accepted.ensures in
+    enough c.args.table.now (accepted) c.args.bytes.now (omega (arith, c.if-bytes-table.false))
 
 pub returns-in-Refused : goal.returns-in-Refused
 unfolding headed_checked
 returns-in-Refused c =
     let s = c.args in
-    let e = sym c.check.ensures ∙ c.r-1.given.1 in
+    let e = sym c.in-Refused.ensures in
     (sym (refused class_step s.table.now s.bytes.now _ e), sym (refused-result class_step s.table.now s.bytes.now class-early _ e))
 
 pub returns-else-bytes-table : goal.returns-else-bytes-table
 unfolding headed_checked
 returns-else-bytes-table c =
-    let accepted : headed_checked true 16383 (start c).args.table.now ≡ Accepted = sym c.check.ensures ∙ c.enum_told-1.given.1 in
-    let t = (start c).args.table.now in
-    let b = (start c).args.bytes.now in
+    let accepted : headed_checked true 16383 c.args.table.now ≡ Accepted = sym c.in-Accepted.ensures in
+    let t = c.args.table.now in
+    let b = c.args.bytes.now in
     let a = accepted in
     let h : length t - 1 ≤ length b = omega (arith, c.if-bytes-table.false) in
     (sym (made class_step t b a (long_enough t a b h)), c.fill.ensures ∙ sym (written t a b h))

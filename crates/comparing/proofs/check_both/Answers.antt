@@ -10,10 +10,10 @@ pub returns-in-Refused : goal.returns-in-Refused
 unfolding comparison_checks
 returns-in-Refused c =
     let a = c.args in
-    sym (first_append-refused (recording_checks a.samples a.start a.driven) _ _ (sym c.check_recording.ensures ∙ c.why-1.given.1))
+    sym (first_append-refused (recording_checks a.samples a.start a.driven) _ _ (sym c.in-Refused.ensures))
 
 pub returns-in-Accepted : goal.returns-in-Accepted
 unfolding comparison_checks
 returns-in-Accepted c =
     let a = c.args in
-    c.check_second.ensures ∙ sym (first_append-accepted (recording_checks a.samples a.start a.driven) _ (sym c.check_recording.ensures ∙ c.enum_told-1.given.1))
+    c.check_second.ensures ∙ sym (first_append-accepted (recording_checks a.samples a.start a.driven) _ (sym c.in-Accepted.ensures))

@@ -10,14 +10,14 @@ use Rattle.comparing.proofs.check_second.Goals as goal
 pub returns-in-Refused : goal.returns-in-Refused
 returns-in-Refused c =
     let a = c.args in
-    sym (first_append-refused (recording_checks a.samples a.start a.driven) _ _ (sym c.check_recording.ensures ∙ c.why-1.given.1))
+    sym (first_append-refused (recording_checks a.samples a.start a.driven) _ _ (sym c.in-Refused.ensures))
 
 pub returns-then-first_driven-driven : goal.returns-then-first_driven-driven
 unfolding count_checks
 returns-then-first_driven-driven c =
     let a = c.args in
     sym (first_append-accepted (recording_checks a.samples a.start a.driven) (count_checks a.first-driven a.driven)
-    (sym c.check_recording.ensures ∙ c.enum_told-1.given.1)
+    (sym c.in-Accepted.ensures)
     ∙ rw (eq-eqb _ _ c.if-first_driven-driven.true))
 
 pub returns-else-first_driven-driven : goal.returns-else-first_driven-driven
@@ -25,5 +25,5 @@ unfolding count_checks
 returns-else-first_driven-driven c =
     let a = c.args in
     sym (first_append-accepted (recording_checks a.samples a.start a.driven) (count_checks a.first-driven a.driven)
-    (sym c.check_recording.ensures ∙ c.enum_told-1.given.1)
+    (sym c.in-Accepted.ensures)
     ∙ rw (ne_eqb _ _ c.if-first_driven-driven.false))

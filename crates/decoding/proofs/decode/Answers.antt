@@ -9,10 +9,6 @@ use Rattle.decoding.specs.Words.{decoded}
 use Rattle.decoding.proofs.Words.{word_more}
 use Rattle.decoding.proofs.decode.Goals as goal
 
-pub loop-i-init : goal.loop-i-init
-unfolding decoded
-loop-i-init c = ⊎_elim (λ w. (omega arith, omega arith, omega arith, refl, refl, omega arith)) (λ w. (omega arith, omega arith, omega arith, refl, refl, omega arith)) c.if-out-n.branch
-
 pub loop-i-preserved : goal.loop-i-preserved
 loop-i-preserved c = (
   omega arith,
@@ -25,8 +21,3 @@ loop-i-preserved c = (
 
 pub shape_of-out : goal.shape_of-out
 shape_of-out c = c.loop-i.invariant.3
-
-pub returns : goal.returns
-returns c =
-    let e : c.loop-i.i ≡ c.if-out-n.n = omega arith in
-    (c.loop-i.invariant.5, rw (← e) c.loop-i.invariant.4)

@@ -15,7 +15,7 @@ use Rattle.evaluation.proofs.judge.Goals as goal
 pub slice_bounds-judge_accepted-count : goal.slice_bounds-judge_accepted-count
 slice_bounds-judge_accepted-count c =
     let t : List ℕ = c.args.table.now in
-    let told : judge_outcome t c.args.samples.now c.args.start c.args.driven c.args.scratch.now c.args.desk ≡ Accepted = sym c.check_judge.ensures ∙ c.enum_told-1.given.1 in
+    let told : judge_outcome t c.args.samples.now c.args.start c.args.driven c.args.scratch.now c.args.desk ≡ Accepted = sym c.in-Accepted.ensures in
     let rows : row_outcome t c.args.samples.now c.args.start c.args.driven c.args.scratch.now ≡ Accepted = judge_rows _ _ _ _ _ _ told in
     let some : 2 ≤ length t = accepted-words _ _ _ _ _ rows in
     omega (arith, some)
@@ -23,7 +23,7 @@ slice_bounds-judge_accepted-count c =
 pub slice_bounds-judge_accepted-start : goal.slice_bounds-judge_accepted-start
 slice_bounds-judge_accepted-start c =
     let t : List ℕ = c.args.table.now in
-    let told : judge_outcome t c.args.samples.now c.args.start c.args.driven c.args.scratch.now c.args.desk ≡ Accepted = sym c.check_judge.ensures ∙ c.enum_told-1.given.1 in
+    let told : judge_outcome t c.args.samples.now c.args.start c.args.driven c.args.scratch.now c.args.desk ≡ Accepted = sym c.in-Accepted.ensures in
     let rows : row_outcome t c.args.samples.now c.args.start c.args.driven c.args.scratch.now ≡ Accepted = judge_rows _ _ _ _ _ _ told in
     let some : 2 ≤ length t = accepted-words _ _ _ _ _ rows in
     omega (arith, some)
@@ -31,7 +31,7 @@ slice_bounds-judge_accepted-start c =
 pub judge_accepted-requires : goal.judge_accepted-requires
 judge_accepted-requires c =
     let t : List ℕ = c.args.table.now in
-    let told : judge_outcome t c.args.samples.now c.args.start c.args.driven c.args.scratch.now c.args.desk ≡ Accepted = sym c.check_judge.ensures ∙ c.enum_told-1.given.1 in
+    let told : judge_outcome t c.args.samples.now c.args.start c.args.driven c.args.scratch.now c.args.desk ≡ Accepted = sym c.in-Accepted.ensures in
     let rows : row_outcome t c.args.samples.now c.args.start c.args.driven c.args.scratch.now ≡ Accepted = judge_rows _ _ _ _ _ _ told in
     rw (whole_body (t)) (accepted-fillable _ _ _ _ _ (rows))
 
@@ -39,14 +39,14 @@ pub returns-in-Refused : goal.returns-in-Refused
 unfolding judge_outcome
 returns-in-Refused c =
     let t : List ℕ = c.args.table.now in
-    let told : judge_outcome t c.args.samples.now c.args.start c.args.driven c.args.scratch.now c.args.desk ≡ Accepted = sym c.check_judge.ensures ∙ c.enum_told-1.given.1 in
-    let told = sym c.check_judge.ensures ∙ c.why-1.given.1 in
+    let told : judge_outcome t c.args.samples.now c.args.start c.args.driven c.args.scratch.now c.args.desk ≡ Accepted = sym c.in-Accepted.ensures in
+    let told = sym c.in-Refused.ensures in
     (refused-reply _ _ _ _ _ _ _ told, refused-scratch _ _ _ _ _ told)
 
 pub returns-in-Accepted : goal.returns-in-Accepted
 returns-in-Accepted c =
     let t : List ℕ = c.args.table.now in
-    let told : judge_outcome t c.args.samples.now c.args.start c.args.driven c.args.scratch.now c.args.desk ≡ Accepted = sym c.check_judge.ensures ∙ c.enum_told-1.given.1 in
+    let told : judge_outcome t c.args.samples.now c.args.start c.args.driven c.args.scratch.now c.args.desk ≡ Accepted = sym c.in-Accepted.ensures in
     let rows : row_outcome t c.args.samples.now c.args.start c.args.driven c.args.scratch.now ≡ Accepted = judge_rows _ _ _ _ _ _ told in
     let few = (accepted-facts _ _ _ _ _ (rows)).few_driven in
     let made = rw (whole_body (t)) at c.judge_accepted.ensures in

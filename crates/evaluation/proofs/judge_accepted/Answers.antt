@@ -9,10 +9,6 @@ use Rattle.table_rows.proofs.Parts.{fillable-length}
 use Rattle.table_rows.specs.Rows.{Fillable}
 use Rattle.evaluation.proofs.judge_accepted.Goals as goal
 
-still-fillable : (c : goal.After-fill_rows)
-    → Fillable c.args.table.now c.args.samples.now c.args.start c.fill_rows.new.1.1.1.0
-still-fillable c = fillable-length _ _ c.fill_rows.auto.1.1.1.0 c.requires
-
 pub fill_rows-requires : goal.fill_rows-requires
 fill_rows-requires c = c.requires
 
@@ -38,17 +34,22 @@ offset_bounds-scratch-from c =
     omega (arith, small)
 
 pub slice_bounds-read_answer-end : goal.slice_bounds-read_answer-end
-slice_bounds-read_answer-end c = last_end _ _ _ _ _ _ (still-fillable c) refl c.row_words-words.ensures
+slice_bounds-read_answer-end c =
+    let still-fillable : Fillable c.args.table.now c.args.samples.now c.args.start c.fill_rows.new.1.1.1.0 = fillable-length _ _ c.fill_rows.auto.1.1.1.0 c.requires in
+    last_end _ _ _ _ _ _ still-fillable refl c.row_words-words.ensures
 
 pub read_answer-requires : goal.read_answer-requires
-read_answer-requires c = last_for _ _ _ _ _ _ (still-fillable c) refl c.row_words-words.ensures
+read_answer-requires c =
+    let still-fillable : Fillable c.args.table.now c.args.samples.now c.args.start c.fill_rows.new.1.1.1.0 = fillable-length _ _ c.fill_rows.auto.1.1.1.0 c.requires in
+    last_for _ _ _ _ _ _ still-fillable refl c.row_words-words.ensures
 
 pub returns : goal.returns
 returns c =
+    let still-fillable : Fillable c.args.table.now c.args.samples.now c.args.start c.fill_rows.new.1.1.1.0 = fillable-length _ _ c.fill_rows.auto.1.1.1.0 c.requires in
     (
   λ driven few e.
       accepted-answer _ _ _ driven _ _ _ c.requires.inside few e
-      (last_row_lem _ _ _ _ _ _ (still-fillable c) refl c.row_words-words.ensures driven few _ (c.fill_rows.ensures driven few))
+      (last_row_lem _ _ _ _ _ _ still-fillable refl c.row_words-words.ensures driven few _ (c.fill_rows.ensures driven few))
       c.read_answer.ensures,
   c.fill_rows.ensures,
 )

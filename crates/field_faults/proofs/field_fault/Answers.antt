@@ -18,7 +18,7 @@ with-mark a marks = set marks a true
 pub returns-in-Constant : goal.returns-in-Constant
 returns-in-Constant c =
     let s = c.args in
-    rw c.enum_told-1.given.1
+    rw c.in-Constant.is
     (checked_both (blank_checks s.left s.n) (blank_checks s.right s.n) unchanged unchanged s.marks.now
     (unmarked c.blank_fault.ensures)
     (unmarked c.blank_fault-in-Constant.ensures)
@@ -27,7 +27,7 @@ returns-in-Constant c =
 pub returns-in-Letter : goal.returns-in-Letter
 returns-in-Letter c =
     let s = c.args in
-    rw c.enum_told-in-Letter-1.given.1
+    rw c.in-Letter.is
     (checked_both (blank_checks s.left s.n) (letter_checks s.right s.n) unchanged unchanged s.marks.now
     (unmarked c.blank_fault-in-Letter.ensures)
     (unmarked c.letter_fault.ensures)
@@ -36,7 +36,7 @@ returns-in-Letter c =
 pub returns-in-Unary : goal.returns-in-Unary
 returns-in-Unary c =
     let s = c.args in
-    rw c.enum_told-in-Unary-1.given.1
+    rw c.in-Unary.is
     (checked_both (blank_checks s.left s.n) (operand_checks s.right s.n) unchanged (with-mark s.right) s.marks.now
     (unmarked c.blank_fault-in-Unary.ensures)
     c.operand_fault.ensures
@@ -45,7 +45,7 @@ returns-in-Unary c =
 pub returns-in-Binary : goal.returns-in-Binary
 returns-in-Binary c =
     let s = c.args in
-    rw c.enum_told-in-Binary-1.given.1
+    rw c.in-Binary.is
     (checked_both (operand_checks s.left s.n) (operand_checks s.right s.n) (with-mark s.left) (with-mark s.right) s.marks.now
     c.operand_fault-in-Binary.ensures
     c.operand_fault-in-Binary-2.ensures

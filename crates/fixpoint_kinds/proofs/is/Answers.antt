@@ -8,19 +8,19 @@ use Rattle.fixpoint_kinds.proofs.Picked.{picked, picked-greatest, passed_least, 
 use Rattle.fixpoint_kinds.proofs.is.Goals as goal
 
 pub returns-in-8 : goal.returns-in-8
-returns-in-8 c = rw c.enum_told-1.given.1 (picked _ c.kind-kind.ensures Least until c.in-8.keys1 (λ a b. refl))
+returns-in-8 c = rw c.in-Least.is (picked _ c.kind-kind.ensures Least until c.in-8.is (λ a b. refl))
 
 pub returns-in-11 : goal.returns-in-11
-returns-in-11 c = rw c.enum_told-1.given.1 (picked _ c.kind-kind.ensures Least strong c.in-11.keys2 (λ a b. refl))
+returns-in-11 c = rw c.in-Least.is (picked _ c.kind-kind.ensures Least strong c.in-11.is (λ a b. refl))
 
 pub returns-in_default : goal.returns-in_default
-returns-in_default c = rw c.enum_told-1.given.1 (passed_least _ c.kind-kind.ensures (kind_lt _ c.ranges.w.fits) c.in_default.rest.0.1 c.in_default.rest.1)
+returns-in_default c = rw c.in-Least.is (passed_least _ c.kind-kind.ensures (kind_lt _ c.ranges.w.fits) c.in_default.rest.0.1 c.in_default.rest.1)
 
 pub returns-in-9-to-10 : goal.returns-in-9-to-10
-returns-in-9-to-10 c = rw c.enum_told-in-Greatest-1.given.1 (picked-greatest _ c.kind-kind.ensures c.if-kind-lt9.false c.if-kind-lt11.true)
+returns-in-9-to-10 c = rw c.in-Greatest.is (picked-greatest _ c.kind-kind.ensures c.if-kind-lt9.false c.if-kind-lt11.true)
 
 pub returns-in_default-kind : goal.returns-in_default-kind
-returns-in_default-kind c = rw c.enum_told-in-Greatest-1.given.1 (passed_greatest _ c.kind-kind.ensures (kind_lt _ c.ranges.w.fits) (omega arith) (omega arith))
+returns-in_default-kind c = rw c.in-Greatest.is (passed_greatest _ c.kind-kind.ensures (kind_lt _ c.ranges.w.fits) (omega arith) (omega arith))
 
 pub returns-in_default-kind-2 : goal.returns-in_default-kind-2
-returns-in_default-kind-2 c = rw c.enum_told-in-Greatest-1.given.1 (passed_greatest _ c.kind-kind.ensures (kind_lt _ c.ranges.w.fits) (omega arith) (omega arith))
+returns-in_default-kind-2 c = rw c.in-Greatest.is (passed_greatest _ c.kind-kind.ensures (kind_lt _ c.ranges.w.fits) (omega arith) (omega arith))

@@ -5,10 +5,10 @@ use Rattle.fold_rules.proofs.ByKind.{constantly_none}
 use Rattle.fold_rules.proofs.by_left.Goals as goal
 
 pub returns-in-1 : goal.returns-in-1
-returns-in-1 c = rw (c.in-1.keys1, shape-constant false) c.on_left.ensures
+returns-in-1 c = rw (c.in-1.is, shape-constant false) c.on_left.ensures
 
 pub returns-in-2 : goal.returns-in-2
-returns-in-2 c = rw (c.in-2.keys2, shape-constant true) c.on_left-in-2.ensures
+returns-in-2 c = rw (c.in-2.is, shape-constant true) c.on_left-in-2.ensures
 
 pub returns-in_default : goal.returns-in_default
-returns-in_default c = rw (constantly_none _ c.args.left c.in_default.rest.0.1 c.in_default.rest.1)
+returns-in_default c = rw (constantly_none _ c.args.left c.in_default.in_default-own.rest.0.1 c.in_default.rest.1)

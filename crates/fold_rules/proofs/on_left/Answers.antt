@@ -4,42 +4,42 @@ use Rattle.fold_rules.proofs.ByKind.{left_at, left_none}
 use Rattle.fold_rules.proofs.on_left.Goals as goal
 
 pub returns-then-constant : goal.returns-then-constant
-returns-then-constant c = rw (left_at _ _ conj true c.in-5.keys1 c.if-constant.true)
+returns-then-constant c = rw (left_at _ _ conj true c.in-5.is c.if-constant.true)
 
 pub returns-else-constant : goal.returns-else-constant
-returns-else-constant c = rw (left_at _ _ conj false c.in-5.keys1 c.if-constant.false)
+returns-else-constant c = rw (left_at _ _ conj false c.in-5.is c.if-constant.false)
 
 pub returns-then-constant-2 : goal.returns-then-constant-2
-returns-then-constant-2 c = rw (left_at _ _ disj true c.in-6.keys2 c.if-constant-2.true)
+returns-then-constant-2 c = rw (left_at _ _ disj true c.in-6.is c.if-constant-2.true)
 
 pub returns-else-constant-2 : goal.returns-else-constant-2
-returns-else-constant-2 c = rw (left_at _ _ disj false c.in-6.keys2 c.if-constant-2.false)
+returns-else-constant-2 c = rw (left_at _ _ disj false c.in-6.is c.if-constant-2.false)
 
 pub returns-then-constant-3 : goal.returns-then-constant-3
-returns-then-constant-3 c = rw (left_at _ _ until true c.in-8.keys3 c.if-constant-3.true)
+returns-then-constant-3 c = rw (left_at _ _ until true c.in-8.is c.if-constant-3.true)
 
 pub returns-else-constant-3 : goal.returns-else-constant-3
-returns-else-constant-3 c = rw (left_at _ _ until false c.in-8.keys3 c.if-constant-3.false)
+returns-else-constant-3 c = rw (left_at _ _ until false c.in-8.is c.if-constant-3.false)
 
 pub returns-then-constant-4 : goal.returns-then-constant-4
-returns-then-constant-4 c = rw (left_at _ _ weak true c.in-9.keys4 c.if-constant-4.true)
+returns-then-constant-4 c = rw (left_at _ _ weak true c.in-9.is c.if-constant-4.true)
 
 pub returns-else-constant-4 : goal.returns-else-constant-4
-returns-else-constant-4 c = rw (left_at _ _ weak false c.in-9.keys4 c.if-constant-4.false)
+returns-else-constant-4 c = rw (left_at _ _ weak false c.in-9.is c.if-constant-4.false)
 
 pub returns-then-constant-5 : goal.returns-then-constant-5
-returns-then-constant-5 c = rw (left_at _ _ release true c.in-10.keys5 c.if-constant-5.true)
+returns-then-constant-5 c = rw (left_at _ _ release true c.in-10.is c.if-constant-5.true)
 
 pub returns-else-constant-5 : goal.returns-else-constant-5
-returns-else-constant-5 c = rw (left_at _ _ release false c.in-10.keys5 c.if-constant-5.false)
+returns-else-constant-5 c = rw (left_at _ _ release false c.in-10.is c.if-constant-5.false)
 
 pub returns-then-constant-6 : goal.returns-then-constant-6
-returns-then-constant-6 c = rw (left_at _ _ strong true c.in-11.keys6 c.if-constant-6.true)
+returns-then-constant-6 c = rw (left_at _ _ strong true c.in-11.is c.if-constant-6.true)
 
 pub returns-else-constant-6 : goal.returns-else-constant-6
-returns-else-constant-6 c = rw (left_at _ _ strong false c.in-11.keys6 c.if-constant-6.false)
+returns-else-constant-6 c = rw (left_at _ _ strong false c.in-11.is c.if-constant-6.false)
 
 pub returns-in_default : goal.returns-in_default
 returns-in_default c =
-    let rest = c.in_default.rest in
+    let rest = c.in_default.in_default-own.rest in
     rw (left_none c.args.kind _ rest.0.0.0.0.0.1 rest.0.0.0.0.1 rest.0.0.0.1 rest.0.0.1 rest.0.1 rest.1)

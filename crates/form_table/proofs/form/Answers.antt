@@ -6,35 +6,25 @@ use Rattle.part_sums.specs.Joining.{joined}
 use Rattle.form_table.proofs.Whole.{form-true, placed-true, placed_sum, summed-numbered, ready_first, joinable_first}
 use Rattle.form_table.proofs.form.Goals as goal
 
--- where the function started, from the words laid out and from the look
-abbrev start : goal.After-fill_words → goal.Start
-start c = c
-
-abbrev laid : goal.After-any → goal.After-fill_words
-laid c = c
-
-abbrev looked : goal.After-all-sum → goal.After-any
-looked c = c
-
 pub any-requires : goal.any-requires
 any-requires c =
-    (ready_first (start c).requires c.fill_words.auto.1.0 c.fill_words.ensures, ((start c).requires.bits_are, (start c).requires.few))
+    (ready_first c.requires c.fill_words.auto.1.0 c.fill_words.ensures, (c.requires.bits_are, c.requires.few))
 
 pub returns-then-any : goal.returns-then-any
 returns-then-any c =
-    let at-start = start (laid c) in
+    let at-start = c in
     placed-true at-start.args.table.now (form-true at-start.args.table.now at-start.pre.bits_are (c.any.ensures.0.some c.if-any.true)) c.pack.ensures c.put.ensures
 
 pub all-sum-requires : goal.all-sum-requires
 all-sum-requires c =
-    let f = laid c in
-    (joinable_first (start f).pre f.fill-words.kept.1.0 f.fill-words.ensures c.any.auto.1.1.1.0 c.any.auto.1.1.1.1.0 c.any.ensures.1, (c.any.ensures.0.none c.if-any.false, (start f).pre.few))
+    let f = c in
+    (joinable_first f.pre f.fill-words.kept.1.0 f.fill-words.ensures c.any.auto.1.1.1.0 c.any.auto.1.1.1.1.0 c.any.ensures.1, (c.any.ensures.0.none c.if-any.false, f.pre.few))
 
 pub close-requires : goal.close-requires
 close-requires c =
-    summed-numbered _ _ _ c.all-sum.result (start (laid (looked c))).requires.numbered c.all-sum.ensures
+    summed-numbered _ _ _ c.all-sum.result c.requires.numbered c.all-sum.ensures
 
 pub returns : goal.returns
 returns c =
-    let at-start = start (laid (looked c)) in
+    let at-start = c in
     placed_sum at-start.args.table.now at-start.pre.bits_are (c.close.ensures _ (joined at-start.args.table.now (choices at-start.args.bits) (const false)) c.all-sum.ensures)

@@ -31,7 +31,7 @@ returns-then-count-table c =
 
 pub of-requires : goal.of-requires
 of-requires c =
-    record { plain_only = _; limit = _; accepted = sym c.check.ensures ∙ c.enum_told-1.given.1; small = omega arith }
+    record { plain_only = _; limit = _; accepted = sym c.in-Accepted.ensures; small = omega arith }
 
 pub returns-then-header-of : goal.returns-then-header-of
 returns-then-header-of c =
@@ -40,7 +40,7 @@ returns-then-header-of c =
     let within : count t ≤ c.args.limit = omega (arith, c.right-count.ensures, c.if-limit-count.false) in
     let same : count (t) ≡ length (body (t)) = sym c.before.before.right.ensures ∙ c.if-count-table.false ∙ sym (length-drop 1 (t)) in
     let words : {o : Outcome} → c.check.result ≡ o → checked c.args.plain (min c.args.limit 16383) (body (t)) ≡ o = λ e. ap (checked _ _) (sym (whole_body (t))) ∙ sym c.check.ensures ∙ e in
-    sym (header_wrong _ _ (t) (some) (within) (same) (words c.enum_told-1.given.1) (λ e. c.if-header-of.true (e ∙ ap header_of (sym (whole_body (t))) ∙ sym c.of.ensures)))
+    sym (header_wrong _ _ (t) (some) (within) (same) (words c.in-Accepted.is) (λ e. c.if-header-of.true (e ∙ ap header_of (sym (whole_body (t))) ∙ sym c.of.ensures)))
 
 pub returns-in-Refused : goal.returns-in-Refused
 returns-in-Refused c =
@@ -49,7 +49,7 @@ returns-in-Refused c =
     let within : count t ≤ c.args.limit = omega (arith, c.right-count.ensures, c.if-limit-count.false) in
     let same : count (t) ≡ length (body (t)) = sym c.before.before.right.ensures ∙ c.if-count-table.false ∙ sym (length-drop 1 (t)) in
     let words : {o : Outcome} → c.check.result ≡ o → checked c.args.plain (min c.args.limit 16383) (body (t)) ≡ o = λ e. ap (checked _ _) (sym (whole_body (t))) ∙ sym c.check.ensures ∙ e in
-    sym (words-refused _ _ (t) (some) (within) (same) (words c.r-1.given.1))
+    sym (words-refused _ _ (t) (some) (within) (same) (words c.in-Refused.is))
 
 pub returns-else-header-of : goal.returns-else-header-of
 returns-else-header-of c =
@@ -58,4 +58,4 @@ returns-else-header-of c =
     let within : count t ≤ c.args.limit = omega (arith, c.right-count.ensures, c.if-limit-count.false) in
     let same : count (t) ≡ length (body (t)) = sym c.before.before.right.ensures ∙ c.if-count-table.false ∙ sym (length-drop 1 (t)) in
     let words : {o : Outcome} → c.check.result ≡ o → checked c.args.plain (min c.args.limit 16383) (body (t)) ≡ o = λ e. ap (checked _ _) (sym (whole_body (t))) ∙ sym c.check.ensures ∙ e in
-    sym (header_right _ _ (t) (some) (within) (same) (words c.enum_told-1.given.1) (c.if-header-of.false ∙ c.of.ensures ∙ ap header_of (whole_body (t))))
+    sym (header_right _ _ (t) (some) (within) (same) (words c.in-Accepted.is) (c.if-header-of.false ∙ c.of.ensures ∙ ap header_of (whole_body (t))))

@@ -6,7 +6,7 @@ use Rattle.judge_replies.proofs.judge_reply.Goals as goal
 
 pub returns-in-Judged : goal.returns-in-Judged
 returns-in-Judged c =
-    let e = ap said (sym c.j-1.given.1) in
+    let e = ap said (sym c.in-Judged.is) in
     record {
       is_number = ap (λ s. s.number) e;
       is_holds = ap (λ s. s.holds) e;
@@ -17,7 +17,7 @@ returns-in-Judged c =
 
 pub returns-in-Refused : goal.returns-in-Refused
 returns-in-Refused c =
-    let e = ap said (sym c.j-in-Refused-1.given.1) in
+    let e = ap said (sym c.in-Refused.is) in
     let r = c.report_of-report.ensures in
     record {
       is_number = ap (λ (x : Report). x.0) r ∙ ap (λ s. s.number) e;

@@ -10,15 +10,15 @@ pub check_words-requires : goal.check_words-requires
 unfolding recording_checks
 check_words-requires c =
     let a = c.args in
-    let p = first_passed (recording_checks a.samples a.start a.driven) (sym c.check_recording.ensures ∙ c.enum_told-1.given.1) in
+    let p = first_passed (recording_checks a.samples a.start a.driven) (sym c.in-Accepted.ensures) in
     (search rules, ltb-false 4096 a.samples p.1.0)
 
 pub returns-in-Refused : goal.returns-in-Refused
 returns-in-Refused c =
     let a = c.args in
-    sym (first_append-refused (recording_checks a.samples a.start a.driven) _ _ (sym c.check_recording.ensures ∙ c.why-1.given.1))
+    sym (first_append-refused (recording_checks a.samples a.start a.driven) _ _ (sym c.in-Refused.ensures))
 
 pub returns-in-Accepted : goal.returns-in-Accepted
 returns-in-Accepted c =
     let a = c.args in
-    c.check_words.ensures ∙ sym (first_append-accepted (recording_checks a.samples a.start a.driven) _ (sym c.check_recording.ensures ∙ c.enum_told-1.given.1))
+    c.check_words.ensures ∙ sym (first_append-accepted (recording_checks a.samples a.start a.driven) _ (sym c.in-Accepted.ensures))

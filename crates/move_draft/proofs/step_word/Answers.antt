@@ -14,10 +14,10 @@ use Rattle.move_draft.proofs.Forms.{inside, numbered, plain_at, constant-filled,
 use Rattle.move_draft.proofs.step_word.Goals as goal
 
 pub overflow_cast-starts : goal.overflow_cast-starts
-overflow_cast-starts c = omega (arith, c.shared_slice_known-5-1.given c.args.j)
+overflow_cast-starts c = omega (arith, c.type_inv.starts c.args.j)
 
 pub moving-h-requires : goal.moving-h-requires
-moving-h-requires c = omega (arith, c.shared_slice_known-5-1.given c.args.j)
+moving-h-requires c = omega (arith, c.type_inv.starts c.args.j)
 
 pub next-requires : goal.next-requires
 next-requires c =
@@ -25,7 +25,7 @@ next-requires c =
     let word : WordAt c.args.words.now c.args.j c.read.result.kind c.read.result.left c.read.result.right = c.read.ensures in
     let slots : 7 * c.args.j + 6 < length c.args.draft.now = inside q in
     let small : c.args.j < 16384 = numbered q in
-    (slots, small, c.moving-h.ensures.1, (right_unary (q) (word) c.in-7.keys1).below)
+    (slots, small, c.moving-h.ensures.1, (right_unary (q) (word) c.in-7.is).below)
 
 pub constant-requires : goal.constant-requires
 constant-requires c =
@@ -86,7 +86,7 @@ returns-in-7 c =
     let q : Next c.args.sample c.args.upper c.args.words.now c.args.bytes.now c.args.starts.now c.args.draft.now c.args.j = c.requires in
     let word : WordAt c.args.words.now c.args.j c.read.result.kind c.read.result.left c.read.result.right = c.read.ensures in
     let told : Moving (get_or c.args.bytes.now (c.args.j - 1) 0) (get_or c.args.starts.now c.args.j 0) c.args.upper c.moving-h.result = c.moving-h.ensures.0 in
-    rw c.next.ensures (next_filled (q) (word) (told) c.in-7.keys1)
+    rw c.next.ensures (next_filled (q) (word) (told) c.in-7.is)
 
 pub returns-in-1-to-2 : goal.returns-in-1-to-2
 returns-in-1-to-2 c =

@@ -39,7 +39,7 @@ pub bounds-table-0 : goal.bounds-table-0
 bounds-table-0 c =
     let l : Limits = c.args.limits in
     let t : List ℕ = c.args.table.now in
-    let accepted : headed_checked true (plain_limit (l)) (t) ≡ Accepted = sym c.check.ensures ∙ c.enum_told-1.given.1 in
+    let accepted : headed_checked true (plain_limit (l)) (t) ≡ Accepted = sym c.in-Accepted.ensures in
     let some : 1 ≤ length (t) = some_word true (plain_limit (l)) (t) accepted in
     some
 
@@ -50,7 +50,7 @@ returns-then-is_normal c =
     let result : List ℕ = c.args.res.now in
     let within : is_permitted l ≡ true = limits_within l _ c.permitted.ensures c.if-not-permitted.false in
     let few : l.written ≤ 256 = (permitted l).written in
-    let accepted : headed_checked true (plain_limit (l)) (t) ≡ Accepted = sym c.check.ensures ∙ c.enum_told-1.given.1 in
+    let accepted : headed_checked true (plain_limit (l)) (t) ≡ Accepted = sym c.in-Accepted.ensures in
     let normal : c.is_normal.result ≡ is_normal (body (t c)) = let told = c in
     let b = c in
     c.is_normal.ensures ∙ normal-header (plain_limit (l)) (omega (arith, few)) (t) (accepted) in
@@ -63,7 +63,7 @@ pub slice_bounds-rewrite-count : goal.slice_bounds-rewrite-count
 slice_bounds-rewrite-count c =
     let l : Limits = c.args.limits in
     let t : List ℕ = c.args.table.now in
-    let accepted : headed_checked true (plain_limit (l)) (t) ≡ Accepted = sym c.check.ensures ∙ c.enum_told-1.given.1 in
+    let accepted : headed_checked true (plain_limit (l)) (t) ≡ Accepted = sym c.in-Accepted.ensures in
     let some : 1 ≤ length (t) = some_word true (plain_limit (l)) (t) accepted in
     some
 
@@ -71,7 +71,7 @@ pub slice_bounds-rewrite-start : goal.slice_bounds-rewrite-start
 slice_bounds-rewrite-start c =
     let l : Limits = c.args.limits in
     let t : List ℕ = c.args.table.now in
-    let accepted : headed_checked true (plain_limit (l)) (t) ≡ Accepted = sym c.check.ensures ∙ c.enum_told-1.given.1 in
+    let accepted : headed_checked true (plain_limit (l)) (t) ≡ Accepted = sym c.in-Accepted.ensures in
     let some : 1 ≤ length (t) = some_word true (plain_limit (l)) (t) accepted in
     some
 
@@ -81,7 +81,7 @@ rewrite-requires c =
     let t : List ℕ = c.args.table.now in
     let within : is_permitted l ≡ true = limits_within l _ c.permitted.ensures c.if-not-permitted.false in
     let few : l.written ≤ 256 = (permitted l).written in
-    let accepted : headed_checked true (plain_limit (l)) (t) ≡ Accepted = sym c.check.ensures ∙ c.enum_told-1.given.1 in
+    let accepted : headed_checked true (plain_limit (l)) (t) ≡ Accepted = sym c.in-Accepted.ensures in
     let normal : c.is_normal.result ≡ is_normal (body (t c)) = let told = c in
     let b = c in
     c.is_normal.ensures ∙ normal-header (plain_limit (l)) (omega (arith, few)) (t) (accepted) in
@@ -96,13 +96,13 @@ returns-in-Refused c =
     let t : List ℕ = c.args.table.now in
     let result : List ℕ = c.args.res.now in
     let within : is_permitted l ≡ true = limits_within l _ c.permitted.ensures c.if-not-permitted.false in
-    let q = table-refused (l) (t) (result) (within) _ (sym c.check.ensures ∙ c.r-1.given.1) in
+    let q = table-refused (l) (t) (result) (within) _ (sym c.in-Refused.ensures) in
     (q.reply, q.slice)
 
 pub returns-else-is_normal : goal.returns-else-is_normal
 returns-else-is_normal c =
     let l : Limits = c.args.limits in
     let t : List ℕ = c.args.table.now in
-    let accepted : headed_checked true (plain_limit (l)) (t) ≡ Accepted = sym c.check.ensures ∙ c.enum_told-1.given.1 in
+    let accepted : headed_checked true (plain_limit (l)) (t) ≡ Accepted = sym c.in-Accepted.ensures in
     let q = rewritten (l) (t) (accepted) (rw (whole_body (t)) at c.rewrite.ensures) in
     (q.reply, q.slice)

@@ -5,34 +5,34 @@ use Rattle.operators.specs.Looped.{does}
 use Rattle.operand_rows.proofs.prepare.Goals as goal
 
 pub load-requires : goal.load-requires
-load-requires c = (c.requires.0.0, c.requires.1 _ (ap does c.op-1.given.1))
+load-requires c = (c.requires.0.0, c.requires.1 _ (ap does c.in-Each.is))
 
 pub load-requires-in-Next : goal.load-requires-in-Next
-load-requires-in-Next c = (c.requires.0.0, c.requires.1 _ (ap does c.enum_told-in-Next-1.given.1))
+load-requires-in-Next c = (c.requires.0.0, c.requires.1 _ (ap does c.in-Next.is))
 
 pub load_both-requires : goal.load_both-requires
-load_both-requires c = (c.requires.0, c.requires.1 _ (ap does c.op-in-Fixpoint-1.given.1))
+load_both-requires c = (c.requires.0, c.requires.1 _ (ap does c.in-Fixpoint.is))
 
 pub returns-in-Constant : goal.returns-in-Constant
-returns-in-Constant c f g h = rw c.enum_told-1.given.1 tt
+returns-in-Constant c f g h = rw c.in-Constant.is tt
 
 pub returns-in-Letter : goal.returns-in-Letter
-returns-in-Letter c f g h = rw c.enum_told-in-Letter-1.given.1 tt
+returns-in-Letter c f g h = rw c.in-Letter.is tt
 
 pub returns-in-Each : goal.returns-in-Each
 returns-in-Each c f g h =
-    let told = c.op-1.given.1 in
+    let told = c.in-Each.is in
     let read = h _ (ap does told) in
     rw told (c.load.ensures f g read.0 read.1)
 
 pub returns-in-Next : goal.returns-in-Next
 returns-in-Next c f g h =
-    let told = c.enum_told-in-Next-1.given.1 in
+    let told = c.in-Next.is in
     let read = h _ (ap does told) in
     rw told (c.load-in-Next.ensures f g read.0 read.1)
 
 pub returns-in-Fixpoint : goal.returns-in-Fixpoint
 returns-in-Fixpoint c f g h =
-    let told = c.op-in-Fixpoint-1.given.1 in
+    let told = c.in-Fixpoint.is in
     let read = h _ (ap does told) in
     rw told (c.load_both.ensures f g read.0 read.1)

@@ -44,7 +44,7 @@ returns-then-choice-ones c =
 pub returns-in-Full : goal.returns-in-Full
 returns-in-Full c =
     let pre = c.requires in
-    (part_full _ _ _ c.if-choice-ones.false pre.0.numbered pre.1.0 c.enum_told-1.given.1, pre.0.ready.fillable.laid)
+    (part_full _ _ _ c.if-choice-ones.false pre.0.numbered pre.1.0 c.in-Full.is, pre.0.ready.fillable.laid)
 
 pub offset_bounds-folded-root : goal.offset_bounds-folded-root
 offset_bounds-folded-root c = omega (arith, within c, few c)

@@ -8,17 +8,17 @@ pub slice_bounds-form-end : goal.slice_bounds-form-end
 slice_bounds-form-end c =
     let a = c.args in
     let f = c.plain_form in
-    within a.limits a.table.now a.plain.now f.new.1.1.0 _ (sym f.ensures.0 ∙ c.n-1.given.1) f.auto.1.1.0
+    within a.limits a.table.now a.plain.now f.new.1.1.0 _ (sym f.ensures.0 ∙ c.in-Made.is) f.auto.1.1.0
 
 pub returns-in-Refused : goal.returns-in-Refused
 returns-in-Refused c =
     let a = c.args in
     let f = c.plain_form in
-    claimed-refused a.limits a.table.now a.plain.now a.form.now (sym f.ensures.0 ∙ c.r-1.given.1) f.ensures.1
+    claimed-refused a.limits a.table.now a.plain.now a.form.now (sym f.ensures.0 ∙ c.in-Refused.is) f.ensures.1
 
 pub returns-in-Made : goal.returns-in-Made
 returns-in-Made c =
     let a = c.args in
     let f = c.plain_form in
     let g = c.form.ensures in
-    claimed_made a.limits a.table.now a.plain.now a.form.now (sym f.ensures.0 ∙ c.n-1.given.1) f.ensures.1 g.0 g.1
+    claimed_made a.limits a.table.now a.plain.now a.form.now (sym f.ensures.0 ∙ c.in-Made.is) f.ensures.1 g.0 g.1

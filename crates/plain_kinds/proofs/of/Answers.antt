@@ -18,7 +18,7 @@ Standing y k = Stands (shape k) y
 
 pub returns-in-7 : goal.returns-in-7
 unfolding shape
-returns-in-7 c = rw c.in-7.keys1 for_next
+returns-in-7 c = rw c.in-7.is for_next
 
 pub returns-in-1-to-4 : goal.returns-in-1-to-4
 unfolding shape
@@ -37,13 +37,13 @@ returns-in-9-to-10 c = in_range (Standing (kinds.Binary Greatest)) 9 1 c.args.ki
 pub returns-in_default : goal.returns-in_default
 returns-in_default c = absurd (omega (arith, c.requires.0))
 
+pub returns-in_default-3 : goal.returns-in_default-3
+unfolding shape
+returns-in_default-3 c = in_range (Standing (kinds.Binary Least)) 11 0 c.args.kind (omega arith) (omega (arith, c.requires.1)) for_strong
+
 pub returns-in_default-2 : goal.returns-in_default-2
 unfolding shape
 returns-in_default-2 c =
     let k : ℕ = c.args.kind in
-    let not-7 : k ≡ 7 → ⊥ = c.in_default-1.rest.1 in
+    let not-7 : k ≡ 7 → ⊥ = c.in_default.in_default-own.rest.1 in
     in_range (Standing (kinds.Binary Least)) 8 0 k (omega arith) (omega arith) for_until
-
-pub returns-in_default-3 : goal.returns-in_default-3
-unfolding shape
-returns-in_default-3 c = in_range (Standing (kinds.Binary Least)) 11 0 c.args.kind (omega arith) (omega (arith, c.requires.1)) for_strong

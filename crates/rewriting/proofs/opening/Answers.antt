@@ -7,13 +7,13 @@ use Rattle.rewriting.proofs.Opened.{others, no_other, opens-constant, opens-lett
 use Rattle.rewriting.proofs.opening.Goals as goal
 
 pub returns-in-7 : goal.returns-in-7
-returns-in-7 c = opens_next c.kind-kind.ensures c.in-7.keys1 c.next.ensures
+returns-in-7 c = opens_next c.kind-kind.ensures c.in-7.is c.next.ensures
 
 pub returns-in-9 : goal.returns-in-9
-returns-in-9 c = opens_weak c.kind-kind.ensures c.in-9.keys2 (c.pack.ensures ∙ rw (c.place.ensures, c.left.ensures))
+returns-in-9 c = opens_weak c.kind-kind.ensures c.in-9.is (c.pack.ensures ∙ rw (c.place.ensures, c.left.ensures))
 
 pub returns-in-10 : goal.returns-in-10
-returns-in-10 c = opens-release c.kind-kind.ensures c.in-10.keys3 (c.pack-in-10.ensures ∙ rw (c.place-in-10.ensures, c.right.ensures))
+returns-in-10 c = opens-release c.kind-kind.ensures c.in-10.is (c.pack-in-10.ensures ∙ rw (c.place-in-10.ensures, c.right.ensures))
 
 pub returns-in-1-to-2 : goal.returns-in-1-to-2
 returns-in-1-to-2 c = opens-constant c.kind-kind.ensures (omega arith) (omega arith) c.pack-in-1-to-2.ensures

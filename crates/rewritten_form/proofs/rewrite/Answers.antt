@@ -11,8 +11,8 @@ answer-requires c =
 
 pub returns-in-Made : goal.returns-in-Made
 returns-in-Made c =
-    given_made c.requires c.args.res.now c.past-past.ensures c.if-past-gt0.false c.n-1.given.1 c.answer.ensures
+    given_made c.requires c.args.res.now c.past-past.ensures c.if-past-gt0.false c.in-Made.is c.answer.ensures
 
 pub returns-in-Refused : goal.returns-in-Refused
 returns-in-Refused c =
-    given_refused c.requires c.args.res.now c.past-past.ensures c.if-past-gt0.false c.r-1.given.1 c.answer.ensures
+    given_refused c.requires c.args.res.now c.past-past.ensures c.if-past-gt0.false c.in-Refused.is c.answer.ensures

@@ -13,17 +13,17 @@ loop-w-init c = (omega arith, omega arith, λ L f e. count_none L f)
 
 pub overflow_cast-held : goal.overflow_cast-held
 overflow_cast-held c =
-    let few : ones (get_or c.args.row.now c.loop-w.w 0) ≤ 64 = ones-le 64 _ (c.shared_slice_known-1.given c.loop-w.w).fits in
+    let few : ones (get_or c.args.row.now c.loop-w.w 0) ≤ 64 = ones-le 64 _ (c.type_inv.row c.loop-w.w).fits in
     omega (arith, few)
 
 pub overflow_add-held : goal.overflow_add-held
 overflow_add-held c =
-    let few : ones (get_or c.args.row.now c.loop-w.w 0) ≤ 64 = ones-le 64 _ (c.shared_slice_known-1.given c.loop-w.w).fits in
+    let few : ones (get_or c.args.row.now c.loop-w.w 0) ≤ 64 = ones-le 64 _ (c.type_inv.row c.loop-w.w).fits in
     omega (arith, few)
 
 pub loop-w-preserved : goal.loop-w-preserved
 loop-w-preserved c =
-    let few : ones (get_or c.args.row.now c.loop-w.w 0) ≤ 64 = ones-le 64 _ (c.shared_slice_known-1.given c.loop-w.w).fits in
+    let few : ones (get_or c.args.row.now c.loop-w.w 0) ≤ 64 = ones-le 64 _ (c.type_inv.row c.loop-w.w).fits in
     (omega arith, omega (arith, few), λ L f e. count_word L f _ _ _ e (omega arith) (c.loop-w.invariant.2 L f e))
 
 pub returns : goal.returns

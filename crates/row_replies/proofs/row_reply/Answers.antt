@@ -12,18 +12,18 @@ place-small : (n : ℕ) {words w : ℕ} → words ≡ w → n * w + w ≤ 104857
 place-small n e h = rw e (omega arith)
 
 pub row_words-width-requires : goal.row_words-width-requires
-row_words-width-requires c = (c.requires c.enum_told-1.given.1).1
+row_words-width-requires c = (c.requires c.in-Accepted.is).1
 
 pub overflow_sub-from : goal.overflow_sub-from
-overflow_sub-from c = omega (arith, (c.requires c.enum_told-1.given.1).0)
+overflow_sub-from c = omega (arith, (c.requires c.in-Accepted.is).0)
 
 pub overflow_mul-from : goal.overflow_mul-from
-overflow_mul-from c = omega (arith, place-small _ c.row_words-width.ensures (c.requires c.enum_told-1.given.1).2)
+overflow_mul-from c = omega (arith, place-small _ c.row_words-width.ensures (c.requires c.in-Accepted.is).2)
 
 pub returns-in-Refused : goal.returns-in-Refused
 returns-in-Refused c =
     let r = c.report_of-report.ensures in
-    row-refused c.outcome-1.given.1 (ap (λ (x : Report). x.0) r) (ap (λ (x : Report). x.1) r)
+    row-refused c.in-Refused.is (ap (λ (x : Report). x.0) r) (ap (λ (x : Report). x.1) r)
 
 pub returns-in-Accepted : goal.returns-in-Accepted
-returns-in-Accepted c = row-accepted _ c.enum_told-1.given.1 c.row_words-width.ensures
+returns-in-Accepted c = row-accepted _ c.in-Accepted.is c.row_words-width.ensures

@@ -14,30 +14,30 @@ use Rattle.rule_rows.proofs.fill.Goals as goal
 pub slice_bounds-fill_rows-count : goal.slice_bounds-fill_rows-count
 slice_bounds-fill_rows-count c =
     let t : List ℕ = c.args.table.now in
-    let told : row_outcome t c.args.samples.now c.args.start c.args.driven c.args.scratch.now ≡ Accepted = sym c.check_row.ensures ∙ c.enum_told-1.given.1 in
+    let told : row_outcome t c.args.samples.now c.args.start c.args.driven c.args.scratch.now ≡ Accepted = sym c.in-Accepted.ensures in
     let some : 2 ≤ length t = accepted-words _ _ _ _ _ told in
     omega (arith, some)
 
 pub slice_bounds-fill_rows-start : goal.slice_bounds-fill_rows-start
 slice_bounds-fill_rows-start c =
     let t : List ℕ = c.args.table.now in
-    let told : row_outcome t c.args.samples.now c.args.start c.args.driven c.args.scratch.now ≡ Accepted = sym c.check_row.ensures ∙ c.enum_told-1.given.1 in
+    let told : row_outcome t c.args.samples.now c.args.start c.args.driven c.args.scratch.now ≡ Accepted = sym c.in-Accepted.ensures in
     let some : 2 ≤ length t = accepted-words _ _ _ _ _ told in
     omega (arith, some)
 
 pub fill_rows-requires : goal.fill_rows-requires
 fill_rows-requires c =
     let t : List ℕ = c.args.table.now in
-    let told : row_outcome t c.args.samples.now c.args.start c.args.driven c.args.scratch.now ≡ Accepted = sym c.check_row.ensures ∙ c.enum_told-1.given.1 in
+    let told : row_outcome t c.args.samples.now c.args.start c.args.driven c.args.scratch.now ≡ Accepted = sym c.in-Accepted.ensures in
     rw (whole_body (t)) (accepted-fillable _ _ _ _ _ (told))
 
 pub returns-in-Refused : goal.returns-in-Refused
 unfolding row_outcome scratch_after
-returns-in-Refused c = (sym c.why-1.given.1 ∙ c.check_row.ensures, refl)
+returns-in-Refused c = (sym c.in-Refused.is ∙ c.check_row.ensures, refl)
 
 pub returns-in-Accepted : goal.returns-in-Accepted
 unfolding scratch_after
 returns-in-Accepted c =
     let t : List ℕ = c.args.table.now in
-    let told : row_outcome t c.args.samples.now c.args.start c.args.driven c.args.scratch.now ≡ Accepted = sym c.check_row.ensures ∙ c.enum_told-1.given.1 in
+    let told : row_outcome t c.args.samples.now c.args.start c.args.driven c.args.scratch.now ≡ Accepted = sym c.in-Accepted.ensures in
     (sym (told), rw (whole_body (t)) at (c.fill_rows.ensures _ (accepted-facts _ _ _ _ _ (told)).few_driven))

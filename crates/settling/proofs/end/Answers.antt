@@ -12,7 +12,7 @@ pub settle-requires : goal.settle-requires
 settle-requires c =
     let pre = c.requires in
     let q = put_made _ _ pre.numbered pre.wide (omega (arith, pre.room)) c.put-n.ensures in
-    (end_room _ pre q, q.small)
+    record { room = end_room _ pre q; n_bound = q.small }
 
 pub returns : goal.returns
 returns c =

@@ -1,31 +1,24 @@
 use Prim.Native.Nat.{◌-◌}
 use native.Mathlib.Omega.{arith}
-use mathlib.Core.Path.{◌≡◌, refl, sym, ◌∙◌}
-use lib.ListN.{length}
-use borrow.Author.Rules.{rules}
-use borrow.Author.Tests.{not-true, not-false}
+use mathlib.Core.Path.{refl, sym, ◌∙◌}
 use Rattle.table.proofs.Fields.{kind_lt}
-use Rattle.placing.specs.State.{state}
-use Rattle.settling.proofs.Settling.{Settling, settling_none, settling_more, settling_stop, settling_empty}
+use Rattle.settling.proofs.Settling.{settling_none, settling_more, settling_stop, settling_empty}
 use Rattle.settling.proofs.settle.Goals as goal
 
-abbrev start : goal.At-loop-top → goal.Start
-start c = c
-
 pub loop-top-init : goal.loop-top-init
-loop-top-init c = let pre = c.requires in (refl, refl, settling_none _ _ _ _ pre.0 pre.1)
+loop-top-init c = (refl, refl, settling_none _ _ _ _ c.requires.room c.requires.n_bound)
 
 pub bounds-stack-top : goal.bounds-stack-top
-bounds-stack-top c = omega (arith, (start c).requires.0.long, (start c).requires.0.room, c.loop-top.invariant.2.shallow)
+bounds-stack-top c = omega (arith, c.requires.room.long, c.requires.room.room, c.loop-top.invariant.2.shallow)
 
 pub returns-then-not-is_prefix : goal.returns-then-not-is_prefix
 returns-then-not-is_prefix c =
     settling_stop _ _ _ _ _ _ _ c.loop-top.invariant.2 c.loop-top-test.true _ c.kind-kind.ensures
-    (sym (not-true _ c.if-not-is_prefix.true) ∙ c.is_prefix.ensures)
+    (sym c.if-not-is_prefix.true ∙ c.is_prefix.ensures)
 
 pub pack-requires : goal.pack-requires
 pack-requires c =
-    let e = c.shared_slice_known-in-loop-top-1.given (c.loop-top.top - 1) in
+    let e = c.type_inv.stack (c.loop-top.top - 1) in
     (omega (arith, c.kind-kind.ensures, kind_lt _ e.fits), omega arith, omega (arith, c.loop-top.invariant.2.small))
 
 pub put-number-requires : goal.put-number-requires
@@ -36,8 +29,8 @@ loop-top-preserved c =
     let inv = c.loop-top.invariant in (
       omega arith,
       omega arith,
-      settling_more _ _ _ _ _ _ _ inv.2 c.loop-top-test.true (start c).requires.0.room _ _ _ _
-          c.kind-kind.ensures c.pack.ensures (sym (not-false _ c.if-not-is_prefix.false) ∙ c.is_prefix.ensures) c.put-number.ensures,
+      settling_more _ _ _ _ _ _ _ inv.2 c.loop-top-test.true c.requires.room.room _ _ _ _
+          c.kind-kind.ensures c.pack.ensures (sym c.if-not-is_prefix.false ∙ c.is_prefix.ensures) c.put-number.ensures,
     )
 
 pub returns : goal.returns

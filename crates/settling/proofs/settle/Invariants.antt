@@ -1,13 +1,8 @@
 -- The prefixes are taken off the stack from the top: proofs/Settling.
-use Prim.Native.Nat.{◌-◌}
-use native.Mathlib.Omega.{arith}
-use mathlib.Core.Path.{◌≡◌, refl, sym, ◌∙◌}
+use mathlib.Core.Path.{◌≡◌}
 use lib.ListN.{length}
-use borrow.Author.Rules.{rules}
-use borrow.Author.Tests.{not-true, not-false}
-use Rattle.table.proofs.Fields.{kind_lt}
 use Rattle.placing.specs.State.{state}
-use Rattle.settling.proofs.Settling.{Settling, settling_none, settling_more, settling_stop, settling_empty}
+use Rattle.settling.proofs.Settling.{Settling}
 use Rattle.settling.proofs.settle.Given as goal
 
 abbrev pub invariant-loop-top : goal.invariant-loop-top

@@ -17,10 +17,10 @@ store-requires-in-5-to-6 c =
     (inside (q), omega (arith, (word).below), omega (arith, o.0.below, numbered (q)), omega (arith, o.1.below, numbered (q)))
 
 pub overflow_cast-starts : goal.overflow_cast-starts
-overflow_cast-starts c = omega (arith, c.shared_slice_known-in_default-2-1.given c.args.j)
+overflow_cast-starts c = omega (arith, c.type_inv.starts c.args.j)
 
 pub starting-requires : goal.starting-requires
-starting-requires c = omega (arith, c.shared_slice_known-in_default-2-1.given c.args.j)
+starting-requires c = omega (arith, c.type_inv.starts c.args.j)
 
 pub states-requires : goal.states-requires
 states-requires c =

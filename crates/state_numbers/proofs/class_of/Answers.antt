@@ -16,7 +16,7 @@ bounds-starts-n c =
 
 pub overflow_cast-starts : goal.overflow_cast-starts
 overflow_cast-starts c =
-    omega (arith, c.shared_slice_known-5-1.given c.args.n)
+    omega (arith, c.type_inv.starts c.args.n)
 
 pub overflow_sub-state : goal.overflow_sub-state
 overflow_sub-state c =

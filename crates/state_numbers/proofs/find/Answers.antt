@@ -15,7 +15,7 @@ pub bounds-starts-n : goal.bounds-starts-n
 bounds-starts-n c = omega (arith, c.loop-n.invariant.0, c.requires.0.long)
 
 pub overflow_cast-starts : goal.overflow_cast-starts
-overflow_cast-starts c = omega (arith, c.shared_slice_known-1.given c.loop-n.n)
+overflow_cast-starts c = omega (arith, c.type_inv.starts c.loop-n.n)
 
 pub overflow_sub-n : goal.overflow_sub-n
 overflow_sub-n c =

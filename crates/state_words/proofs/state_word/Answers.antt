@@ -16,7 +16,7 @@ other : (j b : ℕ) → ((b ≡ 2) ⊎ (b ≡ 5) → ⊥) → pack 0 b j ≡ bit
 other j b f = rw (ne_eqb b 2 (λ e. f (inl e)), ne_eqb b 5 (λ e. f (inr e)))
 
 pub returns-in-2 : goal.returns-in-2
-returns-in-2 c = c.pack.ensures ∙ accepting _ _ c.in-2.keys1
+returns-in-2 c = c.pack.ensures ∙ accepting _ _ c.in-2.is
 
 pub returns-in_default : goal.returns-in_default
 returns-in_default c = c.pack-in_default.ensures ∙ other _ _ c.in_default.rest.1

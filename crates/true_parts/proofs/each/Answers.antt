@@ -10,26 +10,6 @@ use Rattle.parts.specs.Parts.{folded_part}
 use Rattle.true_parts.proofs.Looks.{shifted, Untrue, ready_again, found, untrue_next, none_found}
 use Rattle.true_parts.proofs.each.Goals as goal
 
-abbrev start : goal.At-loop-choice → goal.Start
-start c = c
-
--- the part of a choice is drafted
-module _ (p : goal.After-part-root) where
-  abbrev at-loop : goal.At-loop-choice
-  at-loop = p
-
-  abbrev folded : List ℕ
-  folded = p.part-root.last.1.1.1.1.0
-
-  abbrev t : List ℕ
-  t = (start at-loop).args.table.now
-
-  few : length folded ≤ 2 ^ 20
-  few = omega (arith, p.part-root.kept.1.1.1.1.0, at-loop.loop.inv.3, (start at-loop).requires.0.long, (start at-loop).requires.0.fillable.room.narrow)
-
-  within : p.part-root.result < length folded
-  within = drafted_within folded (folded_part t at-loop.loop.choice) p.part-root.result p.part-root.ensures.0
-
 pub overflow_shl-limit : goal.overflow_shl-limit
 overflow_shl-limit c = omega (arith, c.requires.1)
 
@@ -38,7 +18,7 @@ loop-choice-init c = (shifted _ c.requires.1, zero-le, refl, refl, c.requires.0.
 
 pub part-root-requires : goal.part-root-requires
 part-root-requires c =
-    ready_again (start c).requires.0 c.loop-choice.invariant.2 c.loop-choice.invariant.3 c.loop-choice.invariant.4
+    ready_again c.requires.0 c.loop-choice.invariant.2 c.loop-choice.invariant.3 c.loop-choice.invariant.4
 
 pub offset_bounds-folded-root : goal.offset_bounds-folded-root
 offset_bounds-folded-root c = omega (arith, within c, few c)
@@ -79,5 +59,5 @@ shape_of-folded c = c.loop-choice.invariant.3
 pub returns : goal.returns
 returns c =
     let inv = c.loop-choice.invariant in
-    let a = (start c).args in
+    let a = c.args in
     (none_found a.table.now a.bits (λ d h. inv.5 d (omega (arith, inv.0))), inv.4)

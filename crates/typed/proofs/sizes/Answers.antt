@@ -30,7 +30,7 @@ loop-i-preserved c =
     let i : ℕ = c.loop-i.i in
     let below : i < length t = omega arith in
     let here : c.word_bytes-last.result ≡ counted (get_or (formulas t) i (const false)) =
-    c.word_bytes-last.ensures ∙ next_counted t c.loop-i.sizes i _ _ below (c.shared_slice_known-1.given i).fits c.loop-i.invariant.2
+    c.word_bytes-last.ensures ∙ next_counted t c.loop-i.sizes i _ _ below (c.type_inv.table i).fits c.loop-i.invariant.2
     (c.operand-left.ensures ∙ ap (earlier (take i c.loop-i.sizes)) c.left.ensures)
     (c.operand-right.ensures ∙ ap (earlier (take i c.loop-i.sizes)) c.right.ensures) in (
       omega arith,

@@ -13,17 +13,17 @@ sort-requires c = rw c.kind-kind.ensures (kind_lt c.args.w (omega arith))
 
 pub returns-in-0 : goal.returns-in-0
 returns-in-0 c =
-    bytes_by _ _ _ _ _ _ _ c.kind-kind.ensures c.sort.ensures c.own-n.ensures.0 (rw c.in-0.keys1 (omega (arith, c.own-n.ensures.1)))
+    bytes_by _ _ _ _ _ _ _ c.kind-kind.ensures c.sort.ensures c.own-n.ensures.0 (rw c.in-0.is (omega (arith, c.own-n.ensures.1)))
 
 pub returns-in-1 : goal.returns-in-1
 returns-in-1 c =
     bytes_by _ _ _ _ _ _ _ c.kind-kind.ensures c.sort.ensures c.own-n.ensures.0
-    (rw (c.in-1.keys2, ← c.right.ensures, ← c.digits.ensures.0) (omega (arith, c.own-n.ensures.1, c.digits.ensures.1)))
+    (rw (c.in-1.is, ← c.right.ensures, ← c.digits.ensures.0) (omega (arith, c.own-n.ensures.1, c.digits.ensures.1)))
 
 pub returns-in-2 : goal.returns-in-2
 returns-in-2 c =
     bytes_by _ _ _ _ _ _ _ c.kind-kind.ensures c.sort.ensures c.own-n.ensures.0
-    (rw c.in-2.keys3 (omega (arith, c.least.ensures, c.least-b.ensures)))
+    (rw c.in-2.is (omega (arith, c.least.ensures, c.least-b.ensures)))
 
 pub returns-in_default : goal.returns-in_default
 returns-in_default c =

@@ -23,16 +23,16 @@ bounds-table-0 c =
 pub returns-then-is_normal : goal.returns-then-is_normal
 returns-then-is_normal c =
     let t : List ℕ = c.args.table.now in
-    let accepted : headed_checked true 16383 t ≡ Accepted = sym c.check.ensures ∙ c.enum_told-1.given.1 in
+    let accepted : headed_checked true 16383 t ≡ Accepted = sym c.in-Accepted.ensures in
     let normal : c.is_normal.result ≡ is_normal (body (t)) = let told = c in c.is_normal.ensures ∙ normal-header 16383 (omega arith) (t) (accepted) in
     let told = c in sym (watched_accepted (t) (accepted) (sym (normal) ∙ c.if-is_normal.true))
 
 pub returns-in-Refused : goal.returns-in-Refused
-returns-in-Refused c = sym (table-refused _ _ (sym c.check.ensures ∙ c.r-1.given.1))
+returns-in-Refused c = sym (table-refused _ _ (sym c.in-Refused.ensures))
 
 pub returns-else-is_normal : goal.returns-else-is_normal
 returns-else-is_normal c =
     let t : List ℕ = c.args.table.now in
-    let accepted : headed_checked true 16383 t ≡ Accepted = sym c.check.ensures ∙ c.enum_told-1.given.1 in
+    let accepted : headed_checked true 16383 t ≡ Accepted = sym c.in-Accepted.ensures in
     let normal : c.is_normal.result ≡ is_normal (body (t)) = let told = c in c.is_normal.ensures ∙ normal-header 16383 (omega arith) (t) (accepted) in
     let told = c in sym (not_delta (t) (accepted) (sym (normal) ∙ c.if-is_normal.false))

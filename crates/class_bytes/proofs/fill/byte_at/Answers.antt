@@ -17,37 +17,37 @@ of-requires c = let w = c.requires.0 _ c.requires.1 in rw c.kind.ensures (w.kind
 pub operand-requires : goal.operand-requires
 operand-requires c =
     let found : Stands (shape (kind (get_or c.args.table.now c.args.j 0))) c.of.result = rw c.kind.ensures at c.of.ensures in
-    let stands = rw c.enum_told-in-Next-1.given.1 at (found) in
+    let stands = rw c.in-Next.is at (found) in
     rw c.right.ensures (right_operand _ _ _ c.requires.0 c.requires.1 c.requires.2 stands refl)
 
 pub operand-requires-in-Binary : goal.operand-requires-in-Binary
 operand-requires-in-Binary c =
     let found : Stands (shape (kind (get_or c.args.table.now c.args.j 0))) c.of.result = rw c.kind.ensures at c.of.ensures in
-    let stands = rw c.o-1.given.1 at (found) in
+    let stands = rw c.in-Binary.is at (found) in
     rw c.left.ensures (left_operand _ _ _ c.requires.0 c.requires.1 c.requires.2 stands refl)
 
 pub operand-requires-in-Binary-2 : goal.operand-requires-in-Binary-2
 operand-requires-in-Binary-2 c =
     let found : Stands (shape (kind (get_or c.args.table.now c.args.j 0))) c.of.result = rw c.kind.ensures at c.of.ensures in
-    let stands = rw c.o-1.given.1 at (found) in
+    let stands = rw c.in-Binary.is at (found) in
     rw c.right-in-Binary.ensures (right_operand _ _ _ c.requires.0 c.requires.1 c.requires.2 stands refl)
 
 pub returns-in-Atomic : goal.returns-in-Atomic
 returns-in-Atomic c =
     let found : Stands (shape (kind (get_or c.args.table.now c.args.j 0))) c.of.result = rw c.kind.ensures at c.of.ensures in
-    byte-by_kind _ _ _ c.requires.0 c.requires.1 c.requires.2 kinds.Atomic (rw c.enum_told-1.given.1 at (found))
+    byte-by_kind _ _ _ c.requires.0 c.requires.1 c.requires.2 kinds.Atomic (rw c.in-Atomic.is at (found))
 
 pub returns-in-Next : goal.returns-in-Next
 returns-in-Next c =
     let found : Stands (shape (kind (get_or c.args.table.now c.args.j 0))) c.of.result = rw c.kind.ensures at c.of.ensures in
     c.next.ensures
     ∙ ap next_byte (c.operand.ensures ∙ ap (λ (n : ℕ). get_or c.args.bytes.now (n - 1) 0) c.right.ensures)
-    ∙ byte-by_kind _ _ _ c.requires.0 c.requires.1 c.requires.2 kinds.Next (rw c.enum_told-in-Next-1.given.1 at (found))
+    ∙ byte-by_kind _ _ _ c.requires.0 c.requires.1 c.requires.2 kinds.Next (rw c.in-Next.is at (found))
 
 pub returns-in-Binary : goal.returns-in-Binary
 returns-in-Binary c =
     let found : Stands (shape (kind (get_or c.args.table.now c.args.j 0))) c.of.result = rw c.kind.ensures at c.of.ensures in
     let byte : ℕ → ℕ = λ n. get_or c.args.bytes.now (n - 1) 0 in
     c.binary.ensures
-    ∙ ap₂ (operator_byte c.o-1.given.0.0) (c.operand-in-Binary.ensures ∙ ap byte c.left.ensures) (c.operand-in-Binary-2.ensures ∙ ap byte c.right-in-Binary.ensures)
-    ∙ byte-by_kind _ _ _ c.requires.0 c.requires.1 c.requires.2 (kinds.Binary _) (rw c.o-1.given.1 at (found))
+    ∙ ap₂ (operator_byte c.in-Binary.o) (c.operand-in-Binary.ensures ∙ ap byte c.left.ensures) (c.operand-in-Binary-2.ensures ∙ ap byte c.right-in-Binary.ensures)
+    ∙ byte-by_kind _ _ _ c.requires.0 c.requires.1 c.requires.2 (kinds.Binary _) (rw c.in-Binary.is at (found))

@@ -21,7 +21,7 @@ pub returns-then-find-gt0 : goal.returns-then-find-gt0
 returns-then-find-gt0 c =
     let found = found-occurs (rw (count c) at c.find.ensures) c.if-find-gt0.true in
     record {
-      answer = rw (word_then_repeated, ← c.fault.ensures.answer, c.enum_told-1.given.1, found);
+      answer = rw (word_then_repeated, ← c.fault.ensures.answer, c.in-Accepted.is, found);
       kept = refused_kept;
     }
 
@@ -29,12 +29,12 @@ pub add-requires : goal.add-requires
 add-requires c = rw (count c) (omega (arith, c.requires.0, c.requires.1.words), c.requires.2.indexed.small)
 
 pub returns-in-Refused : goal.returns-in-Refused
-returns-in-Refused c = record { answer = rw (word_then_repeated, ← c.fault.ensures.answer, c.r-1.given.1); kept = refused_kept }
+returns-in-Refused c = record { answer = rw (word_then_repeated, ← c.fault.ensures.answer, c.in-Refused.is); kept = refused_kept }
 
 pub returns-else-find-gt0 : goal.returns-else-find-gt0
 returns-else-find-gt0 c =
     let fields = c.fault.ensures in
-    let passed = c.enum_told-1.given.1 in
+    let passed = c.in-Accepted.is in
     let absent = rw (count c) at (c.find.ensures.absent (omega arith)) in
     record {
       answer = rw (word_then_repeated, ← fields.answer, passed, absent);

@@ -25,7 +25,7 @@ returns-in-Refused c =
           sym
           (c.loop-i.invariant.1
           ∙ words_step _ _ _ c.loop-i-test.true
-          ∙ rw (← c.word_fault.ensures.answer, c.r-1.given.1));
+          ∙ rw (← c.word_fault.ensures.answer, c.in-Refused.is));
       marked = refused_kept;
     }
 
@@ -34,10 +34,10 @@ loop-i-preserved c =
     let inv = c.loop-i.invariant in
     let read = c.word_fault in (
       omega arith,
-      inv.1 ∙ words_step _ _ _ c.loop-i-test.true ∙ rw (← read.ensures.answer, c.enum_told-1.given.1),
+      inv.1 ∙ words_step _ _ _ c.loop-i-test.true ∙ rw (← read.ensures.answer, c.in-Accepted.is),
       read.auto.1.1.1.0 ∙ inv.2,
       read.auto.1.1.1.1.0 ∙ inv.3,
-      read.ensures.kept c.enum_told-1.given.1,
+      read.ensures.kept c.in-Accepted.is,
     )
 
 pub returns : goal.returns

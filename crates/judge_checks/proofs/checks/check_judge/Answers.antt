@@ -5,7 +5,7 @@ use Rattle.judge_conditions.proofs.Outcomes.{judge_refused, judge_accepted}
 use Rattle.judge_checks.proofs.checks.check_judge.Goals as goal
 
 pub returns-in-Refused : goal.returns-in-Refused
-returns-in-Refused c = sym (judge_refused _ _ _ _ _ _ _ (sym c.check_row.ensures ∙ c.why-1.given.1))
+returns-in-Refused c = sym (judge_refused _ _ _ _ _ _ _ (sym c.in-Refused.ensures))
 
 pub returns-in-Accepted : goal.returns-in-Accepted
-returns-in-Accepted c = c.check_desk.ensures ∙ sym (judge_accepted _ _ _ _ _ _ (sym c.check_row.ensures ∙ c.enum_told-1.given.1))
+returns-in-Accepted c = c.check_desk.ensures ∙ sym (judge_accepted _ _ _ _ _ _ (sym c.in-Accepted.ensures))

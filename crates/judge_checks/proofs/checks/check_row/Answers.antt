@@ -29,14 +29,14 @@ slice_bounds-check_memory-start c =
 pub check_memory-requires : goal.check_memory-requires
 check_memory-requires c =
     let t : List ℕ = c.args.table.now in
-    let told : headed_checked false 16383 t ≡ Accepted = sym c.check.ensures ∙ c.enum_told-1.given.1 in
+    let told : headed_checked false 16383 t ≡ Accepted = sym c.in-Accepted.ensures in
     omega (arith, ap length (whole_body (t)), (accepted-well-formed false 16383 _ (accepted-headed false 16383 _ (told)).words).few)
 
 pub returns-in-Refused : goal.returns-in-Refused
-returns-in-Refused c = sym (row-refused _ _ _ _ _ _ (sym c.check.ensures ∙ c.why-1.given.1))
+returns-in-Refused c = sym (row-refused _ _ _ _ _ _ (sym c.in-Refused.ensures))
 
 pub returns-in-Accepted : goal.returns-in-Accepted
 returns-in-Accepted c =
     let t : List ℕ = c.args.table.now in
-    let told : headed_checked false 16383 t ≡ Accepted = sym c.check.ensures ∙ c.enum_told-1.given.1 in
+    let told : headed_checked false 16383 t ≡ Accepted = sym c.in-Accepted.ensures in
     rw (whole_body (t)) at c.check_memory.ensures ∙ sym (row-accepted _ _ _ _ _ (told))

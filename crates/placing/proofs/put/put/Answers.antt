@@ -29,4 +29,4 @@ returns c =
     let counted = c.count-n.ensures in
     rw (add-one, counted)
     (put_end _ h c.find-found.result c.if-found-gt0.false c.find-found.ensures (omega (arith, counted))
-    c.add.new.0 (omega arith) (c.add.ensures _ h.indexed))
+    c.add.new.index (omega arith) (c.add.ensures _ h.indexed))
