@@ -1,5 +1,5 @@
 -- What a draft is numbered with from no words, and what that writes.
-use Rattle.std.specs.Prelude.{ℕ, ◌≤◌, ◌<◌, ◌≡◌, List, length}
+use Rattle.std.specs.Prelude.{ℕ, ◌≤◌, ◌<◌, List, length}
 use Rattle.logic.specs.Formula.{Formula}
 use Rattle.logic.specs.Letters.{Letters}
 use Rattle.table.specs.Numbering.{table_of}
