@@ -1,9 +1,11 @@
-use native.Mathlib.Omega.{arith}
+use Rattle.std.proofs.Common.{arith}
 use Rattle.number_rooms.proofs.Rooms.{numberable, all_written}
 use Rattle.number_rooms.proofs.of_195.Goals as goal
 
 pub number-requires : goal.number-requires
-number-requires c = let q = numberable 195 392 c.requires (omega arith) (omega arith) (omega arith) in record { numbered = q.0; numberable = q.1 }
+number-requires c =
+    let h = numberable 195 392 c.requires (omega arith) (omega arith) (omega arith) in
+    record { numbered = h.0; numberable = h.1 }
 
 pub returns : goal.returns
 returns c = all_written 392 c.number.ensures
