@@ -12,7 +12,6 @@ use Rattle.table.specs.Node.{kind, left, pack, unary_kind, binary_kind}
 use Rattle.table.specs.Numbering.{put, build}
 use Rattle.table.proofs.Fields.{kind-pack, left_pack}
 use Rattle.numbering.proofs.Building.{build-const, build-lit, build-un, build-bin, build_held, held_within, build-length}
-use Rattle.turns.specs.declared.Turn.{Turn}
 use Rattle.turns.specs.declared.Turn.TheVariants as turns
 use Rattle.grammar.specs.Grammar.{Symbol, constant, letter, prefix, operator, open_bracket, close_bracket}
 use Rattle.grammar.specs.Reader.{Open, waiting, bracket, joined, Config, operand, ended, stuck, settle, join, close, shift, Mark, blank, begins, begins_letter, unknown, other_bytes, mark_of, State, inside, lettered, dead, going, alive, of_letter, begin, is_digit, grown, step}

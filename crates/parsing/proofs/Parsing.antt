@@ -1,5 +1,5 @@
 -- A text read byte by byte: how it stands after i bytes, where it ends, and where it departs from the grammar.
-use Prim.Native.Nat.{ℕ, suc, ◌+◌, ◌-◌, ◌≤◌, ◌<◌}
+use Prim.Native.Nat.{ℕ, suc, ◌+◌, ◌≤◌, ◌<◌}
 use native.Mathlib.Omega.{arith}
 use native.Mathlib.Numerals.{add-one}
 use mathlib.Core.Path.{◌≡◌, refl, sym, ap, ◌∙◌}
@@ -13,7 +13,6 @@ use Rattle.logic.specs.Formula.{Formula}
 use Rattle.table.specs.Numbering.{table_of}
 use Rattle.placing.specs.State as draft
 use Rattle.placing.proofs.Putting.{written-length}
-use Rattle.turns.specs.declared.Turn.{Turn}
 use Rattle.turns.specs.declared.Turn.TheVariants as turns
 use Rattle.turns.specs.declared.Reader.{Reader}
 use Rattle.grammar.specs.Reader.{waiting, bracket, joined, Config, operand, ended, stuck, State, inside, lettered, alive, of_letter, mark_of, step, run, start, accepted, final, reading_of, departure_from, departure_of}

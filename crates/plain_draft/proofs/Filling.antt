@@ -1,5 +1,5 @@
 -- Filling the slots of a plain form's draft: what stands in it stays, and what a call leaves is what the next one asks.
-use Prim.Native.Nat.{ℕ, ◌+◌, ◌*◌, ◌<◌, ◌≤◌}
+use Prim.Native.Nat.{ℕ, ◌<◌, ◌≤◌}
 use native.Mathlib.Omega.{arith}
 use native.Mathlib.Decide.{ℕ_discrete}
 use mathlib.Core.Path.{◌≡◌, refl, ap, ◌∙◌}
@@ -8,8 +8,6 @@ use mathlib.Core.List.{List}
 use lib.ListN.{length, get_or, set, length-set}
 use lib.Seq.{get_or-set_other}
 use lib.Dec.{T}
-use mir.Syntax.{w64}
-use mir.Val.{Fits}
 use Rattle.logic.specs.Formula.{Formula, const, lit, un, bin}
 use Rattle.logic.specs.NegationNormalForm as form
 use Rattle.table.specs.Node.{Shape, constant, letter, unary, binary, kind_of}
@@ -62,20 +60,6 @@ module _ (d : List ℕ) (k s : ℕ) (empty : get_or d k 0 ≡ 0) where
 pub slot-inside : {t d : List ℕ} {j : ℕ} (p : Bool) → Asked t d j → slot_of p j < length d
 slot-inside {j = j} p q = omega (arith, (slot_bounds p j).1, q.word.inside, q.slots)
 
--- the slots' numbers fit, and their places too
-module _ {t d : List ℕ} {j : ℕ} (q : Asked t d j) where
-  pub even-fits : Fits w64 (2 * j)
-  even-fits = omega (arith, q.word.inside, q.slots, q.few)
-
-  pub odd-fits : Fits w64 (2 * j + 1)
-  odd-fits = omega (arith, q.word.inside, q.slots, q.few)
-
-  pub even_place : Fits w64 (2 * j * 8)
-  even_place = omega (arith, q.word.inside, q.slots, q.few)
-
-  pub odd_place : Fits w64 ((2 * j + 1) * 8)
-  odd_place = omega (arith, q.word.inside, q.slots, q.few)
-
 -- the form of a word, stored at its own slot
 pub stored-form : {t d e : List ℕ} {s x : ℕ} (p : Bool) (j : ℕ) → Asked t d j → get_or d (slot_of p j) 0 ≡ 0 → Stored d e (slot_of p j) s x
     → Drafted (set d (slot_of p j) s) (form_of p t j) (slot_of p j) → Formed p t j d e x
@@ -118,18 +102,6 @@ asked_then q f = record { word = q.word; slots = omega (arith, q.slots, f.long);
 
 pub asked_after : {p : Bool} {t d e : List ℕ} {i j m x : ℕ} → Formed p t m d e x → Asked t d j → Earlier i j → Asked t e i
 asked_after f q h = asked-earlier (asked_then q f) h
-
--- a form that stands already
-pub known-formed : (p : Bool) {t d : List ℕ} {j : ℕ} → Asked t d j → (get_or d (slot_of p j) 0 ≡ 0 → ⊥) → Formed p t j d d (slot_of p j)
-known-formed p {j = j} q h = record {
-  drafted = q.filled.form p j h;
-  below = (slot_bounds p j).1;
-  inside = slot-inside p q;
-  long = refl;
-  filled = q.filled;
-  kept = λ φ i g. g;
-  later = λ i g. refl;
-}
 
 -- a constant is a form of word 0
 pub constant-form : (p : Bool) (t : List ℕ) → (form_of p t 0 ≡ const (not p)) × (form_of (not p) t 0 ≡ const p)

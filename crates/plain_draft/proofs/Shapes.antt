@@ -1,7 +1,7 @@
 -- The form of a word by the word's shape: the kind that it puts, and what a slot of a draft must hold to stand for it.
 use Prim.Native.Nat.{ℕ, zero, suc, ◌<◌, ◌≤◌}
 use native.Mathlib.Omega.{arith}
-use mathlib.Core.Path.{◌≡◌, refl, sym, ap, subst, ◌∙◌}
+use mathlib.Core.Path.{◌≡◌, refl, sym, subst}
 use mathlib.Core.Bool.{Bool, true, false}
 use mathlib.Core.List.{List}
 use lib.Dec.{T}
@@ -10,10 +10,10 @@ use Rattle.logic.specs.NegationNormalForm as form
 use Rattle.table.specs.Node.{Shape, none, constant, letter, unary, binary, shape, left_field, right_field, binary_kind, kind_of}
 use Rattle.table.specs.Table.{formula_by}
 use Rattle.table.specs.Checks.{is_operand, is_blank}
-use Rattle.table.proofs.Shapes.{shape-kind_of, kind_of-shape}
+use Rattle.table.proofs.Shapes.{shape-kind_of}
 use Rattle.slots.specs.Slot.{pack}
 use Rattle.drafts.specs.Drafted.{SlotIs, Drafted}
-use Rattle.source.specs.Kinds.{signed, signed_kind}
+use Rattle.source.specs.Kinds.{signed}
 
 -- kind 0 alone stands for nothing
 abbrev pub is_word : Shape → Bool
@@ -63,7 +63,7 @@ leaf_by p (binary release) n a b g h f z q = absurd (omega arith)
 leaf_by p (binary strong) n a b g h f z q = absurd (omega arith)
 leaf_by p (binary implies) n a b g h f z q = absurd (omega arith)
 
--- a kind above the constants and letters and other than X, not, F, G and implies
+-- a kind above the constants and letters and other than X, not, F, G and implies, as the last arm of the match on the kind is reached
 pub record IsOperator (k : ℕ) : Type 0 where
   pub above : 5 ≤ k
   pub no_next : k ≡ 7 → ⊥
@@ -71,17 +71,6 @@ pub record IsOperator (k : ℕ) : Type 0 where
   pub no_finally : k ≡ 13 → ⊥
   pub no_globally : k ≡ 14 → ⊥
   pub no_implies : k ≡ 15 → ⊥
-
--- as the last arm of the match on the kind is reached
-pub last_arm : {A : Type 0} {k : ℕ} → 5 ≤ k → (k ≡ 12 → ⊥) → (((A × (k ≡ 7 → ⊥)) × (k ≡ 13 → ⊥)) × (k ≡ 14 → ⊥)) × (k ≡ 15 → ⊥) → IsOperator k
-last_arm h n rest = record {
-  above = h;
-  no_next = rest.0.0.0.1;
-  no_not = n;
-  no_finally = rest.0.0.1;
-  no_globally = rest.0.1;
-  no_implies = rest.1;
-}
 
 -- and, or, U, W, R or M: the operator that its form has, over the forms of its operands
 pub record Operator (p : Bool) (s : Shape) : Type 0 where

@@ -12,7 +12,6 @@ use Rattle.table.specs.Node.{kind, left, pack}
 use Rattle.table.specs.Numbering.{put}
 use Rattle.placing.specs.State.{State, written, Numbered}
 use Rattle.signs.specs.declared.Sign.{Sign}
-use Rattle.turns.specs.declared.Turn.{Turn}
 use Rattle.turns.specs.declared.Turn.TheVariants as turns
 use Rattle.turns.specs.declared.Reader.{Reader}
 use Rattle.settling.specs.declared.Operand.{Operand}

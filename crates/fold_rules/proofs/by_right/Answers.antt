@@ -11,4 +11,4 @@ pub returns-in-2 : goal.returns-in-2
 returns-in-2 c = rw (c.in-2.is, shape-constant true) c.on_right-in-2.ensures
 
 pub returns-in_default : goal.returns-in_default
-returns-in_default c = rw (constantly_none _ c.args.right c.in_default.in_default-own.rest.0.1 c.in_default.rest.1)
+returns-in_default c = rw (constantly_none _ c.args.right c.in_default.in_default-own.rest.0.1 c.in_default.in_default-own.rest.1)

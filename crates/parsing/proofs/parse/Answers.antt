@@ -1,18 +1,9 @@
-use Prim.Native.Nat.{◌-◌, ◌≤◌}
 use native.Mathlib.Omega.{arith}
-use mathlib.Core.Path.{◌≡◌, refl, sym, ◌∙◌}
+use mathlib.Core.Path.{refl, sym, ◌∙◌}
 use mathlib.Core.Bool.{true≢false}
-use lib.ListN.{length}
-use borrow.Author.Rules.{rules}
-use Rattle.placing.specs.State.{state, Numbered}
-use Rattle.settling.specs.Settled.{Room}
-use Rattle.turns.specs.Numbers.{viewed, Fit}
 use Rattle.settling.proofs.Settling.{top-length}
-use Rattle.parsing.proofs.Parsing.{Going, going_more, going-dead, going-read, going-early, going_room, fresh-going, departed, was_read}
+use Rattle.parsing.proofs.Parsing.{going_more, going-dead, going-read, going-early, going_room, fresh-going, departed, was_read}
 use Rattle.parsing.proofs.parse.Goals as goal
-
-abbrev start : goal.At-loop-i → goal.Start
-start c = c
 
 pub loop-i-init : goal.loop-i-init
 loop-i-init c =
@@ -21,19 +12,18 @@ loop-i-init c =
 
 pub step-r-requires : goal.step-r-requires
 step-r-requires c =
-    let room : Room c.loop-i.stack (state c.loop-i.out c.loop-i.index) c.loop-i.r.depth 1 = let inv = c.loop-i.invariant in
-    let pre = (start c).requires in
-    going_room _ _ c.loop-i.r _ _ inv.4 (inv.0 ∙ pre.long) (inv.1 ∙ pre.wide) inv.6 (omega (arith, inv.3, pre.short)) in
-    (room c, c.loop-i.invariant.5)
-
-pub is_stuck-requires : goal.is_stuck-requires
-is_stuck-requires c = search rules
+    let inv = c.loop-i.invariant in
+    let pre = c.requires in
+    record {
+      room = going_room _ _ c.loop-i.r _ _ inv.4 (inv.0 ∙ pre.long) (inv.1 ∙ pre.wide) inv.6 (omega (arith, inv.3, pre.short));
+      fit = inv.5;
+    }
 
 pub returns-then-is_stuck : goal.returns-then-is_stuck
 returns-then-is_stuck c =
     let m = c.step-r.ensures in
     departed _ _ _ m.numbered
-    (going-dead _ _ _ _ c.loop-i.invariant.6 c.loop-i-test.true (start c).requires.short m.same (sym c.is_stuck.ensures ∙ c.if-is_stuck.true))
+    (going-dead _ _ _ _ c.loop-i.invariant.6 c.loop-i-test.true c.requires.short m.same (sym c.is_stuck.ensures ∙ c.if-is_stuck.true))
 
 pub loop-i-preserved : goal.loop-i-preserved
 loop-i-preserved c =
@@ -44,30 +34,29 @@ loop-i-preserved c =
       omega arith,
       m.numbered,
       m.fit,
-      going_more _ _ _ _ c.loop-i.invariant.6 c.loop-i-test.true (start c).requires.short m.same (sym c.is_stuck.ensures ∙ c.if-is_stuck.false),
+      going_more _ _ _ _ c.loop-i.invariant.6 c.loop-i-test.true c.requires.short m.same (sym c.is_stuck.ensures ∙ c.if-is_stuck.false),
     )
 
 pub step-q-requires : goal.step-q-requires
 step-q-requires c =
-    let room : Room c.loop-i.stack (state c.loop-i.out c.loop-i.index) c.loop-i.r.depth 1 = let inv = c.loop-i.invariant in
-    let pre = (start c).requires in
-    going_room _ _ c.loop-i.r _ _ inv.4 (inv.0 ∙ pre.long) (inv.1 ∙ pre.wide) inv.6 (omega (arith, inv.3, pre.short)) in
-    (room c, c.loop-i.invariant.5)
+    let inv = c.loop-i.invariant in
+    let pre = c.requires in
+    record {
+      room = going_room _ _ c.loop-i.r _ _ inv.4 (inv.0 ∙ pre.long) (inv.1 ∙ pre.wide) inv.6 (omega (arith, inv.3, pre.short));
+      fit = inv.5;
+    }
 
 pub returns-then-depth-ne0 : goal.returns-then-depth-ne0
 returns-then-depth-ne0 c =
     let m = c.step-q.ensures in
-    departed _ _ _ m.numbered (going-early _ _ _ _ c.loop-i.invariant.6 c.loop-i-test.false c.loop-i.invariant.3 (start c).requires.short m.same (λ e l. c.if-depth-ne0.true (sym (top-length _ _) ∙ l)))
-
-pub is_ended-requires : goal.is_ended-requires
-is_ended-requires c = search rules
+    departed _ _ _ m.numbered (going-early _ _ _ _ c.loop-i.invariant.6 c.loop-i-test.false c.loop-i.invariant.3 c.requires.short m.same (λ e l. c.if-depth-ne0.true (sym (top-length _ _) ∙ l)))
 
 pub returns-then-is_ended : goal.returns-then-is_ended
 returns-then-is_ended c =
     let m = c.step-q.ensures in
-    was_read _ _ m.numbered (going-read _ _ _ _ c.loop-i.invariant.6 c.loop-i-test.false c.loop-i.invariant.3 (start c).requires.short m.same (sym c.is_ended.ensures ∙ c.if-is_ended.true) (top-length _ _ ∙ c.if-depth-ne0.false))
+    was_read _ _ m.numbered (going-read _ _ _ _ c.loop-i.invariant.6 c.loop-i-test.false c.loop-i.invariant.3 c.requires.short m.same (sym c.is_ended.ensures ∙ c.if-is_ended.true) (top-length _ _ ∙ c.if-depth-ne0.false))
 
 pub returns : goal.returns
 returns c =
     let m = c.step-q.ensures in
-    departed _ _ _ m.numbered (going-early _ _ _ _ c.loop-i.invariant.6 c.loop-i-test.false c.loop-i.invariant.3 (start c).requires.short m.same (λ e l. true≢false (sym e ∙ sym c.is_ended.ensures ∙ c.if-is_ended.false)))
+    departed _ _ _ m.numbered (going-early _ _ _ _ c.loop-i.invariant.6 c.loop-i-test.false c.loop-i.invariant.3 c.requires.short m.same (λ e l. true≢false (sym e ∙ sym c.is_ended.ensures ∙ c.if-is_ended.false)))

@@ -1,15 +1,10 @@
 -- The loop's invariant is that of proofs/Parsing: a state of the reader whose image the code holds.
 use Prim.Native.Nat.{◌-◌, ◌≤◌}
-use native.Mathlib.Omega.{arith}
-use mathlib.Core.Path.{◌≡◌, refl, sym, ◌∙◌}
-use mathlib.Core.Bool.{true≢false}
+use mathlib.Core.Path.{◌≡◌}
 use lib.ListN.{length}
-use borrow.Author.Rules.{rules}
 use Rattle.placing.specs.State.{state, Numbered}
-use Rattle.settling.specs.Settled.{Room}
 use Rattle.turns.specs.Numbers.{viewed, Fit}
-use Rattle.settling.proofs.Settling.{top-length}
-use Rattle.parsing.proofs.Parsing.{Going, going_more, going-dead, going-read, going-early, going_room, fresh-going, departed, was_read}
+use Rattle.parsing.proofs.Parsing.{Going}
 use Rattle.parsing.proofs.parse.Given as goal
 
 abbrev pub invariant-loop-i : goal.invariant-loop-i

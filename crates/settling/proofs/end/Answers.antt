@@ -1,12 +1,8 @@
 -- A word is put, and the prefixes follow.
 use native.Mathlib.Omega.{arith}
-use borrow.Author.Rules.{rules}
 use Rattle.placing.specs.State.{state}
 use Rattle.settling.proofs.Settling.{put_made, end_room, end_settles}
 use Rattle.settling.proofs.end.Goals as goal
-
-pub put-n-requires : goal.put-n-requires
-put-n-requires c = search rules
 
 pub settle-requires : goal.settle-requires
 settle-requires c =

@@ -2,17 +2,10 @@
 use native.Mathlib.Omega.{arith}
 use mathlib.Core.Path.{refl}
 use Rattle.turns.proofs.Making.{digit-out, digit_in, zero-out, large-out}
-use borrow.Author.Rules.{rules}
 use Rattle.turns.proofs.digit.Goals as goal
-
-pub stuck-requires : goal.stuck-requires
-stuck-requires c = search rules
 
 pub returns-then-m-eq0 : goal.returns-then-m-eq0
 returns-then-m-eq0 c = digit-out _ _ c.stuck.ensures (zero-out _ c.if-m-eq0.true)
-
-pub stuck-requires-then-m-gt32 : goal.stuck-requires-then-m-gt32
-stuck-requires-then-m-gt32 c = search rules
 
 pub returns-then-m-gt32 : goal.returns-then-m-gt32
 returns-then-m-gt32 c = digit-out _ _ c.stuck-then-m-gt32.ensures (large-out _ c.if-m-gt32.true)

@@ -1,8 +1,6 @@
 -- An entry above the top.
-use native.Mathlib.Omega.{arith}
 use native.Mathlib.Numerals.{add-one}
 use Rattle.turns.proofs.Making.{top_push}
-use borrow.Author.Rules.{rules}
 use Rattle.turns.proofs.push.Goals as goal
 
 pub returns : goal.returns

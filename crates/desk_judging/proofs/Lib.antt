@@ -1,2 +1,0 @@
--- What walks by hand have in common.
-pub mod Walking
