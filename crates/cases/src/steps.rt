@@ -15,7 +15,7 @@ fn call<'t, W: Write>(
 ) -> io::Result<()> {
     let step = word(head, input::STEP);
     show::first(out, step)?;
-    match step {
+    let shown = match step {
         1 => table_steps::check(out, head, table),
         2 => table_steps::classify(out, head, table),
         3 => table_steps::plain(out, head, table),
@@ -26,7 +26,8 @@ fn call<'t, W: Write>(
         8 => table_steps::text(out, head, table),
         10 => judge_steps::compare(out, head, table, samples),
         _ => table_steps::words(out, head, table),
-    }?;
+    };
+    shown?;
     show::end(out)
 }
 
@@ -48,11 +49,7 @@ fn recorded<R: Read, W: Write>(
 }
 
 // The table of a case, and its call; whether the input had so many words.
-fn tabled<R: Read, W: Write>(
-    reader: &mut R,
-    out: &mut W,
-    head: &[u32; 19],
-) -> io::Result<bool> {
+fn tabled<R: Read, W: Write>(reader: &mut R, out: &mut W, head: &[u32; 19]) -> io::Result<bool> {
     let mut table = [0u32; 16400];
     let from = number(head, input::CHAIN);
     let n = number(head, input::LISTED);
