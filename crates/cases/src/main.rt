@@ -8,11 +8,11 @@ mod steps;
 mod table_steps;
 
 use std::io;
-use std::io::BufWriter;
+use std::io::{BufWriter, Write};
 
 fn main(rt: HostRuntime) -> io::Result<()> {
-    let mut reader = rt.reader();
-    let mut out = BufWriter::new(rt.alloc(), io::writer(&rt))?;
+    let mut reader = rt.stdin();
+    let mut out = BufWriter::new(rt.alloc(), rt.stdout())?;
     for _ in 0..100000 {
         if !steps::one(&mut reader, &mut out)? {
             break;

@@ -91,8 +91,8 @@ fn text_input<R: Read, W: Write, E: Write>(
 }
 
 fn main(rt: HostRuntime) -> io::Result<()> {
-    let mut reader = rt.reader();
-    let mut out = BufWriter::new(rt.alloc(), io::writer(&rt))?;
+    let mut reader = rt.stdin();
+    let mut out = BufWriter::new(rt.alloc(), rt.stdout())?;
     let mut error = rt.stderr();
     let a = argument::all(&rt);
     if !a.known {
