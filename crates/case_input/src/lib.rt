@@ -97,11 +97,8 @@ fn lowest(words: &[u32], i: usize) -> u8 {
 
 // The lowest byte of each word, as many as there is room for, and then 0.
 pub fn bytes(words: &[u32], out: &mut [u8]) {
-    let mut i: usize = 0;
-    while i < out.len() {
-        let b = lowest(words, i);
-        out[i] = b;
-        i += 1;
+    for (i, b) in out.iter_mut().enumerate() {
+        *b = lowest(words, i);
     }
 }
 
@@ -114,11 +111,8 @@ fn listed_word(words: &[u32], i: usize) -> u32 {
 
 // Each word, as many as there is room for, and then 0.
 pub fn copy(words: &[u32], out: &mut [u32]) {
-    let mut i: usize = 0;
-    while i < out.len() {
-        let w = listed_word(words, i);
-        out[i] = w;
-        i += 1;
+    for (i, w) in out.iter_mut().enumerate() {
+        *w = listed_word(words, i);
     }
 }
 
@@ -137,11 +131,8 @@ fn chain_word(k: usize, n: usize) -> u32 {
 }
 
 fn chain(t: &mut [u32], n: usize) {
-    let mut k: usize = 0;
-    while k < t.len() {
-        let w = chain_word(k, n);
-        t[k] = w;
-        k += 1;
+    for (k, w) in t.iter_mut().enumerate() {
+        *w = chain_word(k, n);
     }
 }
 
@@ -210,12 +201,9 @@ fn sample(x: u64) -> u32 {
 // Samples that look random.
 fn record(samples: &mut [u32], seed: usize) {
     let mut x = seed as u64;
-    let mut i: usize = 0;
-    while i < samples.len() {
+    for v in samples.iter_mut() {
         x = next(x);
-        let v = sample(x);
-        samples[i] = v;
-        i += 1;
+        *v = sample(x);
     }
 }
 

@@ -2,8 +2,8 @@
 
 // A text as it is shown: each byte that is no printable character as a question mark.
 pub fn show(text: &[u8], out: &mut [u8]) {
-    for i in 0..out.len() {
-        out[i] = shown(text, i);
+    for (i, b) in out.iter_mut().enumerate() {
+        *b = shown(text, i);
     }
 }
 
