@@ -1,7 +1,7 @@
 // The input: a buffer filled from it, and what is left of it.
-ghost use Rattle.std.specs.Prelude.{◌≡◌, ◌<◌, length, take, IfOk, OnErr};
+ghost use Rattle.std.specs.Prelude.{◌≡◌, ℕ, ◌%◌, ◌<◌, List, length, take, IfOk};
 ghost use Rattle.std.specs.Io.{ReadsAtMost};
-ghost use Rattle.std.specs.Io.KnownBytes.{Consumes, IsAtEnd, Keeps, ReadConsumes};
+ghost use Rattle.std.specs.Io.KnownBytes.{Consumes, IsAtEnd, ReadConsumes};
 
 use std::io;
 use std::io::{ErrorKind, Read};
@@ -43,7 +43,11 @@ pub fn fill<R: Read>(reader: &mut R, buffer: &mut [u8]) -> io::Result<usize>
 }
 
 // How many bytes the rest of the input has beyond whole words.
-pub fn rest<R: Read>(reader: &mut R) -> io::Result<usize> {
+pub fn rest<R: Read>(reader: &mut R) -> io::Result<usize>
+    ensures { IfOk result (λ odd. (bytes : List ℕ)
+        × Consumes (R.remaining reader.old) (R.remaining reader.new) bytes
+        × (odd ≡ length bytes % 4)) }
+{
     let mut odd = 0;
     for _ in 0..u64::MAX {
         let mut buffer = [0u8; 4096];
