@@ -1,5 +1,5 @@
 -- Nothing is drafted yet, and there is room.
-use native.Mathlib.Omega.{arith}
+use Rattle.std.proofs.Common.{arith}
 use Rattle.plain_rooms.proofs.Rooms.{nothing-drafted, to_number, form-written}
 use Rattle.plain_rooms.proofs.of_256.Goals as goal
 

@@ -1,5 +1,5 @@
 -- Nothing is drafted yet, and there is room.
-use native.Mathlib.Omega.{arith}
+use Rattle.std.proofs.Common.{arith}
 use Rattle.number_rooms.proofs.Rooms.{asked_larger}
 use Rattle.plain_rooms.proofs.Rooms.{nothing-drafted, to_number, form-written}
 use Rattle.plain_rooms.proofs.of_64.Goals as goal

@@ -1,4 +1,3 @@
-use native.Mathlib.Omega.{arith}
 use Rattle.plain_rooms.proofs.Rooms.{asked-fewer}
 use Rattle.plain_rooms.proofs.write.Goals as goal
 
