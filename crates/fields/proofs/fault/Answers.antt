@@ -26,10 +26,10 @@ of_kind-requires c = (omega (arith, c.if-kind-eq0.false), rw c.kind-kind.ensures
 pub returns : goal.returns
 returns c =
     let plain-enough : (c.args.plain && leb 12 c.kind-kind.result) ≡ false =
-        elim c.else-plain.branch [
-          else-plain-via-then-plain+else-kind-ge12 w ↦ rw (w.if-plain.true, lt-leb _ _ w.if-kind-ge12.false)
-        | else-plain-via-else-plain w ↦ rw w.if-plain.false
-        ] in
+    elim c.else-plain.branch [
+      | else-plain-via-then-plain+else-kind-ge12 w ↦ rw (w.if-plain.true, lt-leb _ _ w.if-kind-ge12.false)
+      | else-plain-via-else-plain w ↦ rw w.if-plain.false
+    ] in
     let laid : c.of_kind.result ≡ layout_of (shape (kind c.args.w)) = c.of_kind.ensures ∙ ap (λ (k : ℕ). layout_of (shape k)) c.kind-kind.ensures in
     let read = c.field_fault.ensures in
     record {
