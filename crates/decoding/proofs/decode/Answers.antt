@@ -1,13 +1,20 @@
-use borrow.Author.Rules.{rules}
 use Prim.Native.Nat.{◌≤◌, ◌-◌, ◌/◌, min}
 use mathlib.Core.Path.{◌≡◌, refl}
-use mathlib.Core.Logic.{⊎_elim}
 use mathlib.Core.List.{◌++◌}
 use native.Mathlib.Omega.{arith}
 use lib.ListN.{length, drop, length-set}
 use Rattle.decoding.specs.Words.{decoded}
 use Rattle.decoding.proofs.Words.{word_more}
 use Rattle.decoding.proofs.decode.Goals as goal
+use Rattle.decoding.proofs.decode.Goals.{then-out-n, else-out-n}
+
+pub loop-i-init : goal.loop-i-init
+unfolding decoded
+loop-i-init c =
+    elim c.if-out-n.branch [
+      then-out-n w ↦ (omega arith, omega arith, omega arith, refl, refl, omega arith)
+    | else-out-n w ↦ (omega arith, omega arith, omega arith, refl, refl, omega arith)
+    ]
 
 pub loop-i-preserved : goal.loop-i-preserved
 loop-i-preserved c = (
