@@ -1,6 +1,9 @@
 // What the case runner reads: words, and the tables and recordings that a case is about.
 #![tactic(auto)]
 
+use std::io;
+use std::io::Read;
+
 // The head of a case is 19 words, by these numbers: the step (1 check, 2 class, 3 plain form, 4 normal form, 5 whole way, 6 judge, 7 row call, 8 text,
 // 9 dialect, 10 comparison, 11 step by a sample, 12 states of the automaton, 13 move of a state); how many words of a chain the table has
 // after its header, and how many are listed, the header and those after the chain; the number of a word that is replaced, the header being the first (0: none), and the word; the limits of the house, on written
@@ -70,19 +73,19 @@ fn decode(bytes: &[u8; 65600], out: &mut [u32]) {
 }
 
 // Words of the input, until the slice is full; whether there were so many. Of a slice over 16,400 words nothing is read.
-pub fn words(out: &mut [u32]) -> bool {
+pub fn words<R: Read>(reader: &mut R, out: &mut [u32]) -> io::Result<bool> {
     let mut bytes = [0u8; 65600];
     let n = out.len();
     if n == 0 {
-        return true;
+        return Ok(true);
     }
     if 16400 < n {
-        return false;
+        return Ok(false);
     }
     let m = 4 * n;
-    let got = io::read_full(0, &mut bytes[0..m]);
+    let got = console::input::fill(reader, &mut bytes[0..m])?;
     decode(&bytes, out);
-    got == m
+    Ok(got == m)
 }
 
 fn lowest(words: &[u32], i: usize) -> u8 {
@@ -94,11 +97,8 @@ fn lowest(words: &[u32], i: usize) -> u8 {
 
 // The lowest byte of each word, as many as there is room for, and then 0.
 pub fn bytes(words: &[u32], out: &mut [u8]) {
-    let mut i: usize = 0;
-    while i < out.len() {
-        let b = lowest(words, i);
-        out[i] = b;
-        i += 1;
+    for (i, b) in out.iter_mut().enumerate() {
+        *b = lowest(words, i);
     }
 }
 
@@ -111,11 +111,8 @@ fn listed_word(words: &[u32], i: usize) -> u32 {
 
 // Each word, as many as there is room for, and then 0.
 pub fn copy(words: &[u32], out: &mut [u32]) {
-    let mut i: usize = 0;
-    while i < out.len() {
-        let w = listed_word(words, i);
-        out[i] = w;
-        i += 1;
+    for (i, w) in out.iter_mut().enumerate() {
+        *w = listed_word(words, i);
     }
 }
 
@@ -134,23 +131,20 @@ fn chain_word(k: usize, n: usize) -> u32 {
 }
 
 fn chain(t: &mut [u32], n: usize) {
-    let mut k: usize = 0;
-    while k < t.len() {
-        let w = chain_word(k, n);
-        t[k] = w;
-        k += 1;
+    for (k, w) in t.iter_mut().enumerate() {
+        *w = chain_word(k, n);
     }
 }
 
 // Words of the input from number `from` up to `to`, counted from 0; whether there were so many.
-fn listed(t: &mut [u32], from: usize, to: usize) -> bool {
+fn listed<R: Read>(reader: &mut R, t: &mut [u32], from: usize, to: usize) -> io::Result<bool> {
     if t.len() < to {
-        return false;
+        return Ok(false);
     }
     if to < from {
-        return false;
+        return Ok(false);
     }
-    words(&mut t[from..to])
+    words(reader, &mut t[from..to])
 }
 
 // Word number `at` replaced, unless at is 0.
@@ -163,21 +157,28 @@ fn replace(t: &mut [u32], at: usize, word: u32) {
 }
 
 // The listed words of a table: the header before the chain, which has `from` words, and the others after it.
-fn around(t: &mut [u32], from: usize, to: usize) -> bool {
+fn around<R: Read>(reader: &mut R, t: &mut [u32], from: usize, to: usize) -> io::Result<bool> {
     if to <= from {
-        return true;
+        return Ok(true);
     }
-    let header = listed(t, 0, 1);
-    let others = listed(t, from + 1, to);
-    header && others
+    let header = listed(reader, t, 0, 1)?;
+    let others = listed(reader, t, from + 1, to)?;
+    Ok(header && others)
 }
 
 // The table of a case: its header, a chain, then listed words, one of them replaced; whether there were so many.
-pub fn table(t: &mut [u32], from: usize, to: usize, at: usize, word: u32) -> bool {
+pub fn table<R: Read>(
+    reader: &mut R,
+    t: &mut [u32],
+    from: usize,
+    to: usize,
+    at: usize,
+    word: u32,
+) -> io::Result<bool> {
     chain(t, from);
-    let there = around(t, from, to);
+    let there = around(reader, t, from, to)?;
     replace(t, at, word);
-    there
+    Ok(there)
 }
 
 // One number after another that looks random.
@@ -200,23 +201,25 @@ fn sample(x: u64) -> u32 {
 // Samples that look random.
 fn record(samples: &mut [u32], seed: usize) {
     let mut x = seed as u64;
-    let mut i: usize = 0;
-    while i < samples.len() {
+    for v in samples.iter_mut() {
         x = next(x);
-        let v = sample(x);
-        samples[i] = v;
-        i += 1;
+        *v = sample(x);
     }
 }
 
 // The first n samples of a recording: of the input, or if there is a seed those that look random; whether there were so many.
-pub fn samples(all: &mut [u32], n: usize, seed: usize) -> bool {
+pub fn samples<R: Read>(
+    reader: &mut R,
+    all: &mut [u32],
+    n: usize,
+    seed: usize,
+) -> io::Result<bool> {
     if seed != 0 {
         record(all, seed);
-        return true;
+        return Ok(true);
     }
     if all.len() < n {
-        return false;
+        return Ok(false);
     }
-    words(&mut all[0..n])
+    words(reader, &mut all[0..n])
 }

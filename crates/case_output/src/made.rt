@@ -1,37 +1,70 @@
 // What a call answered: the number and the place, then its other numbers, and a sum over the whole slice that it wrote.
 use crate::{show, sum};
+use std::io;
+use std::io::Write;
 
 // Words that were made.
-pub fn words(number: u32, place: usize, words: usize, res: &[u32; 16400]) {
-    show::answer(number, place);
-    show::number(words);
-    sum::form(res);
+pub fn words<W: Write>(
+    out: &mut W,
+    number: u32,
+    place: usize,
+    words: usize,
+    res: &[u32; 16400],
+) -> io::Result<()> {
+    show::answer(out, number, place)?;
+    show::number(out, words)?;
+    sum::form(out, res)
 }
 
-pub fn plain(number: u32, place: usize, words: usize, res: &[u32; 520]) {
-    show::answer(number, place);
-    show::number(words);
-    sum::plain(res);
+pub fn plain<W: Write>(
+    out: &mut W,
+    number: u32,
+    place: usize,
+    words: usize,
+    res: &[u32; 520],
+) -> io::Result<()> {
+    show::answer(out, number, place)?;
+    show::number(out, words)?;
+    sum::plain(out, res)
 }
 
 // A form: whether it is its source, before the sums.
-pub fn form(number: u32, place: usize, words: usize, own: bool) {
-    show::answer(number, place);
-    show::number(words);
-    show::flag(own);
+pub fn form<W: Write>(
+    out: &mut W,
+    number: u32,
+    place: usize,
+    words: usize,
+    own: bool,
+) -> io::Result<()> {
+    show::answer(out, number, place)?;
+    show::number(out, words)?;
+    show::flag(out, own)
 }
 
 // A judgement, before its tally.
-pub fn judgement(number: u32, place: usize, holds: bool, moments: usize, failing: usize) {
-    show::answer(number, place);
-    show::flag(holds);
-    show::number(moments);
-    show::number(failing);
+pub fn judgement<W: Write>(
+    out: &mut W,
+    number: u32,
+    place: usize,
+    holds: bool,
+    moments: usize,
+    failing: usize,
+) -> io::Result<()> {
+    show::answer(out, number, place)?;
+    show::flag(out, holds)?;
+    show::number(out, moments)?;
+    show::number(out, failing)
 }
 
 // Two recordings held against each other.
-pub fn comparison(number: u32, place: usize, same: bool, moment: usize) {
-    show::answer(number, place);
-    show::flag(same);
-    show::number(moment);
+pub fn comparison<W: Write>(
+    out: &mut W,
+    number: u32,
+    place: usize,
+    same: bool,
+    moment: usize,
+) -> io::Result<()> {
+    show::answer(out, number, place)?;
+    show::flag(out, same)?;
+    show::number(out, moment)
 }

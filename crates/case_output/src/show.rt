@@ -1,28 +1,37 @@
 // A line of numbers in decimal, a space before each but the first.
-pub fn first(n: u32) {
-    io::print_decimal(1, n as u64);
+ghost use Rattle.std.specs.Prelude.{OnOk, ◌++◌, codes, decimal};
+ghost use Rattle.std.specs.Io.KnownBytes.{Appends};
+
+use std::io;
+use std::io::Write;
+
+pub fn first<W: Write>(out: &mut W, n: u32) -> io::Result<()>
+    ensures { OnOk result (Appends (W.contents out.old) (W.contents out.new) (decimal n)) }
+{
+    write!(out, "{n}")
 }
 
-pub fn number(n: usize) {
-    io::write_all(1, b" ");
-    io::print_decimal(1, n as u64);
+pub fn number<W: Write>(out: &mut W, n: usize) -> io::Result<()>
+    ensures { OnOk result (Appends (W.contents out.old) (W.contents out.new) (codes " " ++ decimal n)) }
+{
+    write!(out, " {n}")
 }
 
 // 1 if it is so, else 0.
-pub fn flag(so: bool) {
-    if so {
-        number(1);
-    } else {
-        number(0);
-    }
+pub fn flag<W: Write>(out: &mut W, so: bool) -> io::Result<()> {
+    if so { number(out, 1) } else { number(out, 0) }
 }
 
 // A refusal's number and place.
-pub fn answer(refusal: u32, place: usize) {
-    number(refusal as usize);
-    number(place);
+pub fn answer<W: Write>(out: &mut W, refusal: u32, place: usize) -> io::Result<()> {
+    number(out, refusal as usize)?;
+    number(out, place)
 }
 
-pub fn end() {
-    io::write_all(1, b"\n");
+// The line's end, after which the whole line is written out.
+pub fn end<W: Write>(out: &mut W) -> io::Result<()>
+    ensures { OnOk result (Appends (W.contents out.old) (W.contents out.new) (codes "\n")) }
+{
+    out.write_all(b"\n")?;
+    out.flush()
 }

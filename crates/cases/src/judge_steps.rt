@@ -3,19 +3,33 @@
 use case_input as input;
 use case_input::{number, word};
 use case_output::{made, show, sum};
+use std::io;
+use std::io::Write;
 use tally::Tally;
 
 // By the call that takes the named desk's tally by value: a function that lends a slice of tallies is not covered.
-pub fn judge<'t>(head: &[u32; 19], table: &'t [u32], samples: &'t [u32]) {
+pub fn judge<'t, W: Write>(
+    out: &mut W,
+    head: &[u32; 19],
+    table: &'t [u32],
+    samples: &'t [u32],
+) -> io::Result<()> {
     let mut scratch = [18446744073709551615u64; 2100];
     let room = number(head, input::ROOM);
     if room <= 2100 {
-        judged(head, table, samples, &mut scratch[0..room]);
-        sum::scratch(&scratch);
+        judged(out, head, table, samples, &mut scratch[0..room])?;
+        sum::scratch(out, &scratch)?;
     }
+    Ok(())
 }
 
-fn judged<'t>(head: &[u32; 19], table: &'t [u32], samples: &'t [u32], scratch: &'t mut [u64]) {
+fn judged<'t, W: Write>(
+    out: &mut W,
+    head: &[u32; 19],
+    table: &'t [u32],
+    samples: &'t [u32],
+    scratch: &'t mut [u64],
+) -> io::Result<()> {
     let tally = Tally {
         judged: word(head, input::JUDGED),
         held: word(head, input::HELD),
@@ -38,26 +52,38 @@ fn judged<'t>(head: &[u32; 19], table: &'t [u32], samples: &'t [u32], scratch: &
         &mut failing,
         &mut place,
     );
-    made::judgement(called.number, place, holds, moments, failing);
-    tally_shown(called.tally);
+    made::judgement(out, called.number, place, holds, moments, failing)?;
+    tally_shown(out, called.tally)
 }
 
-fn tally_shown(t: Tally) {
-    show::number(t.judged as usize);
-    show::number(t.held as usize);
+fn tally_shown<W: Write>(out: &mut W, t: Tally) -> io::Result<()> {
+    show::number(out, t.judged as usize)?;
+    show::number(out, t.held as usize)
 }
 
 // The row that is handed back, and the whole scratch.
-pub fn row(head: &[u32; 19], table: &[u32], samples: &[u32]) {
+pub fn row<W: Write>(
+    out: &mut W,
+    head: &[u32; 19],
+    table: &[u32],
+    samples: &[u32],
+) -> io::Result<()> {
     let mut scratch = [18446744073709551615u64; 2100];
     let room = number(head, input::ROOM);
     if room <= 2100 {
-        handed(head, table, samples, &mut scratch[0..room]);
-        sum::scratch(&scratch);
+        handed(out, head, table, samples, &mut scratch[0..room])?;
+        sum::scratch(out, &scratch)?;
     }
+    Ok(())
 }
 
-fn handed(head: &[u32; 19], table: &[u32], samples: &[u32], scratch: &mut [u64]) {
+fn handed<W: Write>(
+    out: &mut W,
+    head: &[u32; 19],
+    table: &[u32],
+    samples: &[u32],
+    scratch: &mut [u64],
+) -> io::Result<()> {
     let mut refusal: u32 = 9;
     let mut place: usize = 9;
     let part = rule_rows::row(
@@ -69,11 +95,16 @@ fn handed(head: &[u32; 19], table: &[u32], samples: &[u32], scratch: &mut [u64])
         &mut refusal,
         &mut place,
     );
-    show::answer(refusal, place);
-    sum::rows(part);
+    show::answer(out, refusal, place)?;
+    sum::rows(out, part)
 }
 
-pub fn compare(head: &[u32; 19], first: &[u32], second: &[u32]) {
+pub fn compare<W: Write>(
+    out: &mut W,
+    head: &[u32; 19],
+    first: &[u32],
+    second: &[u32],
+) -> io::Result<()> {
     let mut same = true;
     let mut moment: usize = 9;
     let mut place: usize = 9;
@@ -88,5 +119,5 @@ pub fn compare(head: &[u32; 19], first: &[u32], second: &[u32]) {
         &mut moment,
         &mut place,
     );
-    made::comparison(refusal, place, same, moment);
+    made::comparison(out, refusal, place, same, moment)
 }

@@ -7,9 +7,16 @@ mod judge_steps;
 mod steps;
 mod table_steps;
 
-fn main() {
-    let mut turns: usize = 100000;
-    while 0 < turns && steps::one() {
-        turns -= 1;
+use std::io;
+use std::io::{BufWriter, Write};
+
+fn main(rt: HostRuntime) -> io::Result<()> {
+    let mut reader = rt.stdin();
+    let mut out = BufWriter::new(rt.alloc(), rt.stdout())?;
+    for _ in 0..100000 {
+        if !steps::one(&mut reader, &mut out)? {
+            break;
+        }
     }
+    out.flush()
 }

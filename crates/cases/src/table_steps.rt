@@ -2,9 +2,11 @@
 use case_input as input;
 use case_input::{number, word};
 use case_output::{made, show, sum};
+use std::io;
+use std::io::Write;
 use table::settings::Limits;
 
-pub fn check(head: &[u32; 19], table: &[u32]) {
+pub fn check<W: Write>(out: &mut W, head: &[u32; 19], table: &[u32]) -> io::Result<()> {
     let mut place: usize = 9;
     let refusal = table_calls::check(
         table,
@@ -12,31 +14,33 @@ pub fn check(head: &[u32; 19], table: &[u32]) {
         number(head, input::LIMIT),
         &mut place,
     );
-    show::answer(refusal, place);
+    show::answer(out, refusal, place)
 }
 
-pub fn classify(head: &[u32; 19], table: &[u32]) {
+pub fn classify<W: Write>(out: &mut W, head: &[u32; 19], table: &[u32]) -> io::Result<()> {
     let mut bytes = [0xEEu8; 16400];
     let mut place: usize = 9;
     let room = number(head, input::ROOM);
     if room <= 16400 {
         let refusal = table_calls::classify(table, &mut bytes[0..room], &mut place);
-        show::answer(refusal, place);
-        sum::bytes(&bytes);
+        show::answer(out, refusal, place)?;
+        sum::bytes(out, &bytes)?;
     }
+    Ok(())
 }
 
 // The listed words are the bytes of the text.
-pub fn text(head: &[u32; 19], listed: &[u32]) {
+pub fn text<W: Write>(out: &mut W, head: &[u32; 19], listed: &[u32]) -> io::Result<()> {
     let mut bytes = [0u8; 16400];
     let n = listed.len();
     case_input::bytes(listed, &mut bytes);
     if n <= 16400 {
-        read(head, &bytes[0..n]);
+        read(out, head, &bytes[0..n])?;
     }
+    Ok(())
 }
 
-fn read(head: &[u32; 19], text: &[u8]) {
+fn read<W: Write>(out: &mut W, head: &[u32; 19], text: &[u8]) -> io::Result<()> {
     let mut result = [0xEEEEEEEEu32; 520];
     let mut words: usize = 9;
     let mut place: usize = 9;
@@ -50,11 +54,12 @@ fn read(head: &[u32; 19], text: &[u8]) {
             &mut words,
             &mut place,
         );
-        made::plain(refusal, place, words, &result);
+        made::plain(out, refusal, place, words, &result)?;
     }
+    Ok(())
 }
 
-pub fn plain(head: &[u32; 19], table: &[u32]) {
+pub fn plain<W: Write>(out: &mut W, head: &[u32; 19], table: &[u32]) -> io::Result<()> {
     let mut result = [0xEEEEEEEEu32; 520];
     let mut words: usize = 9;
     let mut place: usize = 9;
@@ -68,8 +73,9 @@ pub fn plain(head: &[u32; 19], table: &[u32]) {
             &mut words,
             &mut place,
         );
-        made::plain(refusal, place, words, &result);
+        made::plain(out, refusal, place, words, &result)?;
     }
+    Ok(())
 }
 
 // The steps that make words by no limits of a house: a conversion, a step by a sample, the states of an automaton, or a state's move.
@@ -98,32 +104,39 @@ fn made_by(
     }
 }
 
-pub fn words(head: &[u32; 19], table: &[u32]) {
+pub fn words<W: Write>(out: &mut W, head: &[u32; 19], table: &[u32]) -> io::Result<()> {
     let mut result = [0xEEEEEEEEu32; 16400];
     let mut words: usize = 9;
     let mut place: usize = 9;
     let room = number(head, input::ROOM);
     if room <= 16400 {
         let refusal = made_by(head, table, &mut result[0..room], &mut words, &mut place);
-        made::words(refusal, place, words, &result);
+        made::words(out, refusal, place, words, &result)?;
     }
+    Ok(())
 }
 
 // The form that is handed back, and both slices, of which the source keeps its words.
-pub fn normal(head: &[u32; 19], table: &[u32]) {
+pub fn normal<W: Write>(out: &mut W, head: &[u32; 19], table: &[u32]) -> io::Result<()> {
     let mut source = [0u32; 16400];
     let mut result = [0xEEEEEEEEu32; 16400];
     let n = table.len();
     let room = number(head, input::ROOM);
     case_input::copy(table, &mut source);
     if n <= 16400 && room <= 16400 {
-        handed(head, &mut source[0..n], &mut result[0..room]);
-        sum::form(&source);
-        sum::form(&result);
+        handed(out, head, &mut source[0..n], &mut result[0..room])?;
+        sum::form(out, &source)?;
+        sum::form(out, &result)?;
     }
+    Ok(())
 }
 
-fn handed(head: &[u32; 19], source: &mut [u32], res: &mut [u32]) {
+fn handed<W: Write>(
+    out: &mut W,
+    head: &[u32; 19],
+    source: &mut [u32],
+    res: &mut [u32],
+) -> io::Result<()> {
     let mut refusal: u32 = 9;
     let mut place: usize = 9;
     let limits = Limits {
@@ -131,23 +144,36 @@ fn handed(head: &[u32; 19], source: &mut [u32], res: &mut [u32]) {
         fixpoints: number(head, input::FIXPOINTS),
     };
     let part = handed_form::normalise(limits, source, res, &mut refusal, &mut place);
-    show::answer(refusal, place);
-    sum::words(part);
+    show::answer(out, refusal, place)?;
+    sum::words(out, part)
 }
 
-pub fn form(head: &[u32; 19], table: &[u32]) {
+pub fn form<W: Write>(out: &mut W, head: &[u32; 19], table: &[u32]) -> io::Result<()> {
     let mut plain = [0xEEEEEEEEu32; 520];
     let mut result = [0xEEEEEEEEu32; 16400];
     let room = number(head, input::ROOM);
     let second = number(head, input::SECOND);
     if room <= 520 && second <= 16400 {
-        whole_way(head, table, &mut plain[0..room], &mut result[0..second]);
-        sum::plain(&plain);
-        sum::form(&result);
+        whole_way(
+            out,
+            head,
+            table,
+            &mut plain[0..room],
+            &mut result[0..second],
+        )?;
+        sum::plain(out, &plain)?;
+        sum::form(out, &result)?;
     }
+    Ok(())
 }
 
-fn whole_way(head: &[u32; 19], table: &[u32], plain: &mut [u32], res: &mut [u32]) {
+fn whole_way<W: Write>(
+    out: &mut W,
+    head: &[u32; 19],
+    table: &[u32],
+    plain: &mut [u32],
+    res: &mut [u32],
+) -> io::Result<()> {
     let mut own = true;
     let mut words: usize = 9;
     let mut place: usize = 9;
@@ -161,5 +187,5 @@ fn whole_way(head: &[u32; 19], table: &[u32], plain: &mut [u32], res: &mut [u32]
         &mut words,
         &mut place,
     );
-    made::form(refusal, place, words, own);
+    made::form(out, refusal, place, words, own)
 }

@@ -1,4 +1,6 @@
 // The program's arguments: `text` and `as-text`, in either order.
+use std::env::{Env, FillError};
+
 #[derive(Clone, Copy)]
 pub struct Arguments {
     pub text: bool,
@@ -6,52 +8,40 @@ pub struct Arguments {
     pub known: bool,
 }
 
-fn same(a: &[u8], b: &[u8]) -> bool {
-    if a.len() != b.len() {
-        return false;
-    }
-    let mut i: usize = 0;
-    while i < a.len() {
-        if a[i] != b[i] {
-            return false;
-        }
-        i += 1;
-    }
-    true
-}
-
-// Argument i, beside what is known of those before it. One that is longer than both is answered as empty, which is neither.
-fn with(before: Arguments, i: usize) -> Arguments {
+// Argument i, beside what is known of those before it; nothing if there is none. One that is longer than both is neither.
+fn with<R: Env>(rt: &R, before: Arguments, i: usize) -> Option<Arguments> {
     let mut bytes = [0u8; 8];
-    let n = os::arg(i, &mut bytes);
-    let text = same(&bytes[..n], b"text");
-    let as_text = same(&bytes[..n], b"as-text");
-    Arguments {
+    let n = match rt.arg(i, &mut bytes) {
+        Ok(n) => n,
+        Err(FillError::TooLong) => 0,
+        Err(FillError::NotPresent) => return None,
+    };
+    let argument = &bytes[..n];
+    let text = argument == b"text".as_slice();
+    let as_text = argument == b"as-text".as_slice();
+    Some(Arguments {
         text: before.text || text,
         as_text: before.as_text || as_text,
-        known: text || as_text,
-    }
+        known: before.known && (text || as_text),
+    })
 }
 
 // No argument, one or two.
-pub fn all() -> Arguments {
+pub fn all<R: Env>(rt: &R) -> Arguments {
     let none = Arguments {
         text: false,
         as_text: false,
         known: true,
     };
-    let n = os::arg_count();
-    if n < 2 {
+    let Some(one) = with(rt, none, 1) else {
         return none;
-    }
-    let one = with(none, 1);
-    if n == 2 {
+    };
+    let Some(two) = with(rt, one, 2) else {
         return one;
-    }
-    let two = with(one, 2);
+    };
+    let three = with(rt, two, 3);
     Arguments {
-        text: two.text,
-        as_text: two.as_text,
-        known: n == 3 && one.known && two.known,
+        known: two.known && three.is_none(),
+        ..two
     }
 }

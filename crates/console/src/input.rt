@@ -1,20 +1,61 @@
-// What is left of the input.
+// The input: a buffer filled from it, and what is left of it.
+ghost use Rattle.std.specs.Prelude.{◌≡◌, ℕ, ◌%◌, ◌<◌, List, length, take, IfOk};
+ghost use Rattle.std.specs.Io.{ReadsAtMost};
+ghost use Rattle.std.specs.Io.KnownBytes.{Consumes, IsAtEnd, ReadConsumes};
 
-// One more piece of the input, and whether there was any; `odd` is how many bytes all pieces so far have beyond whole words.
-fn piece(odd: &mut usize) -> bool {
-    let mut buffer = io::buffer();
-    let n = io::read_full(0, &mut buffer);
-    *odd = (*odd % 4 + n % 4) % 4;
-    0 < n
+use std::io;
+use std::io::{ErrorKind, Read};
+
+// One read, again where a signal interrupted it.
+fn read_again<R: Read>(reader: &mut R, buffer: &mut [u8]) -> io::Result<usize>
+    ensures bound { ReadsAtMost result buffer.new }
+    ensures bytes { ReadConsumes (R.remaining reader.old) (R.remaining reader.new) result buffer.new }
+{
+    for _ in 0..u64::MAX {
+        match reader.read(buffer) {
+            Ok(n) => return Ok(n),
+            Err(error) => {
+                if error.kind() != ErrorKind::Interrupted {
+                    return Err(error);
+                }
+            }
+        }
+    }
+    reader.read(buffer)
 }
 
-// How many bytes the rest of the input has beyond whole words. A proved loop has to end, so it counts down from a number that
-// no input uses up.
-pub fn rest() -> usize {
-    let mut odd: usize = 0;
-    let mut turns = u64::MAX;
-    while 0 < turns && piece(&mut odd) {
-        turns -= 1;
+// Reads until the buffer is full or the input ends, and answers how many bytes were read, which stand at the front of the buffer. How many
+// bytes were read before a read that fails is not said.
+pub fn fill<R: Read>(reader: &mut R, buffer: &mut [u8]) -> io::Result<usize>
+    ensures bound { ReadsAtMost result buffer.new }
+    ensures bytes { IfOk result (λ n. Consumes (R.remaining reader.old) (R.remaining reader.new) (take n buffer.new)) }
+    ensures end { IfOk result (λ n. n < length buffer.new → IsAtEnd (R.remaining reader.new)) }
+{
+    let mut done = 0;
+    while done < buffer.len() {
+        let n = read_again(reader, &mut buffer[done..])?;
+        if n == 0 {
+            break;
+        }
+        done += n;
     }
-    odd
+    Ok(done)
+}
+
+// How many bytes the rest of the input has beyond whole words.
+pub fn rest<R: Read>(reader: &mut R) -> io::Result<usize>
+    ensures { IfOk result (λ odd. (bytes : List ℕ)
+        × Consumes (R.remaining reader.old) (R.remaining reader.new) bytes
+        × (odd ≡ length bytes % 4)) }
+{
+    let mut odd = 0;
+    for _ in 0..u64::MAX {
+        let mut buffer = [0u8; 4096];
+        let n = fill(reader, &mut buffer)?;
+        if n == 0 {
+            break;
+        }
+        odd = (odd + n) % 4;
+    }
+    Ok(odd)
 }

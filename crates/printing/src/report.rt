@@ -1,60 +1,65 @@
 // Refusals, and words as lines.
 use crate::terminal;
-use refusals::Refusal;
+use refusals::{Refusal, Report};
+use std::io;
+use std::io::Write;
 
-fn numbers(number: u32, place: usize) {
-    io::write_all(1, b"refused ");
-    io::print_decimal(1, number as u64);
-    io::write_all(1, b" at ");
-    io::print_decimal(1, place as u64);
-    io::write_all(1, b"\n");
+fn numbers<W: Write>(out: &mut W, number: u32, place: usize) -> io::Result<()> {
+    writeln!(out, "refused {number} at {place}")
 }
 
-pub fn refused(r: Refusal) {
-    let report = reports::report_of(r);
-    numbers(report.0, report.1);
+pub fn refused<W: Write>(out: &mut W, r: Refusal) -> io::Result<()> {
+    let Report(number, place) = reports::report_of(r);
+    numbers(out, number, place)
 }
 
-// Why a text is refused; where it departs from the grammar, the text itself too.
-pub fn refused_text(r: Refusal, bytes: &[u8]) {
-    let report = reports::report_of(r);
-    numbers(report.0, report.1);
-    if report.0 == 19 {
-        departure(bytes, report.1);
+// Why a text is refused; where it departs from the grammar, the text itself too, on `error` and after the refusal.
+pub fn refused_text<W: Write, E: Write>(
+    out: &mut W,
+    error: &mut E,
+    r: Refusal,
+    bytes: &[u8],
+) -> io::Result<()> {
+    let Report(number, place) = reports::report_of(r);
+    numbers(out, number, place)?;
+    if number == 19 {
+        out.flush()?;
+        departure(error, bytes, place)?;
     }
+    Ok(())
 }
 
 // A text, and a caret below the place at which it departs from the grammar.
-fn departure(bytes: &[u8], place: usize) {
+fn departure<E: Write>(error: &mut E, bytes: &[u8], place: usize) -> io::Result<()> {
     let mut shown = [b' '; 1024];
     let n = bytes.len();
     terminal::show(bytes, &mut shown);
     if n <= 1024 {
-        io::write_all(2, &shown[0..n]);
-        io::write_all(2, b"\n");
+        error.write_all(&shown[0..n])?;
+        error.write_all(b"\n")?;
     }
-    caret(place);
+    caret(error, place)
 }
 
-fn caret(place: usize) {
+fn caret<E: Write>(error: &mut E, place: usize) -> io::Result<()> {
     let spaces = [b' '; 1024];
     if place == 0 {
-        return;
+        return Ok(());
     }
     let before = place - 1;
     if before <= 1024 {
-        io::write_all(2, &spaces[0..before]);
-        io::write_all(2, b"^\n");
+        error.write_all(&spaces[0..before])?;
+        error.write_all(b"^\n")?;
     }
+    Ok(())
 }
 
 // How many words there are, and each on its line.
-pub fn words(form: &[u32]) {
-    io::print_decimal(1, form.len() as u64);
-    io::write_all(1, b"\n");
-    let mut i: usize = 0;
-    while i < form.len() {
-        io::write_all(1, &listing::line(form[i]));
-        i += 1;
+pub fn words<W: Write>(out: &mut W, form: &[u32]) -> io::Result<()> {
+    let n = form.len();
+    writeln!(out, "{n}")?;
+    for w in form {
+        out.write_all(&listing::line(*w))?;
     }
+    Ok(())
 }

@@ -2,11 +2,8 @@
 
 // A text as it is shown: each byte that is no printable character as a question mark.
 pub fn show(text: &[u8], out: &mut [u8]) {
-    let mut i: usize = 0;
-    while i < out.len() {
-        let b = shown(text, i);
-        out[i] = b;
-        i += 1;
+    for (i, b) in out.iter_mut().enumerate() {
+        *b = shown(text, i);
     }
 }
 

@@ -4,78 +4,103 @@
 #![tactic(auto)]
 
 use console::argument;
-use console::input::rest;
+use console::input::{fill, rest};
 use line_end::without_line_end;
 use printing::report::{refused, refused_text};
 use refusals::Outcome;
+use std::io;
+use std::io::{BufWriter, Read, Write};
 use table::answer::{Answer, Form};
 
 // The form of a table, printed.
-fn answer(table: &[u32], as_text: bool) {
+fn answer<W: Write, E: Write>(
+    out: &mut W,
+    error: &mut E,
+    table: &[u32],
+    as_text: bool,
+) -> io::Result<()> {
     let mut plain = [0u32; 131];
     let mut form = [0u32; 4097];
     match pipeline::form(limits::desk(), table, &mut plain, &mut form) {
-        Form::Source(n) => printing::form::print(&plain, n, as_text),
-        Form::Made(n) => printing::form::print(&form, n, as_text),
-        Form::Refused(r) => refused(r),
+        Form::Source(n) => printing::form::print(out, error, &plain, n, as_text),
+        Form::Made(n) => printing::form::print(out, error, &form, n, as_text),
+        Form::Refused(r) => refused(out, r),
     }
 }
 
 // The header and at most 65 words, one more than a rule may have, so that a longer input is refused as a table.
-fn answer_bytes(bytes: &[u8], as_text: bool) {
+fn answer_bytes<W: Write, E: Write>(
+    out: &mut W,
+    error: &mut E,
+    bytes: &[u8],
+    as_text: bool,
+) -> io::Result<()> {
     let mut words = [0u32; 66];
     let n = decoding::decode(bytes, &mut words);
     if n <= 66 {
-        answer(&words[0..n], as_text);
+        answer(out, error, &words[0..n], as_text)?;
     }
+    Ok(())
 }
 
-fn table(as_text: bool) {
+fn table<R: Read, W: Write, E: Write>(
+    reader: &mut R,
+    out: &mut W,
+    error: &mut E,
+    as_text: bool,
+) -> io::Result<()> {
     let mut bytes = [0u8; 264];
-    let n = io::read_full(0, &mut bytes);
-    let odd = rest();
+    let n = fill(reader, &mut bytes)?;
+    let odd = rest(reader)?;
     match decoding::check_input(n, odd) {
-        Outcome::Refused(r) => refused(r),
-        Outcome::Accepted => {
-            if n <= 264 {
-                answer_bytes(&bytes[0..n], as_text);
-            }
-        }
+        Outcome::Refused(r) => refused(out, r),
+        Outcome::Accepted => answer_bytes(out, error, &bytes[0..n], as_text),
     }
 }
 
-fn answer_text(bytes: &[u8], as_text: bool) {
+fn answer_text<W: Write, E: Write>(
+    out: &mut W,
+    error: &mut E,
+    bytes: &[u8],
+    as_text: bool,
+) -> io::Result<()> {
     let mut words = [0u32; 65];
     match text::read(limits::desk(), bytes, &mut words) {
         Answer::Made(n) => {
             if n <= 65 {
-                answer(&words[0..n], as_text);
+                answer(out, error, &words[0..n], as_text)?;
             }
+            Ok(())
         }
-        Answer::Refused(r) => refused_text(r, bytes),
+        Answer::Refused(r) => refused_text(out, error, r, bytes),
     }
 }
 
 // A text of 1,024 bytes, its final line end, and one byte more: of an input that is longer, more than 1,024 are left.
-fn text_input(as_text: bool) {
+fn text_input<R: Read, W: Write, E: Write>(
+    reader: &mut R,
+    out: &mut W,
+    error: &mut E,
+    as_text: bool,
+) -> io::Result<()> {
     let mut bytes = [0u8; 1027];
-    let n = io::read_full(0, &mut bytes);
-    rest();
-    if n <= 1027 {
-        let m = without_line_end(&bytes[0..n]);
-        if m <= 1027 {
-            answer_text(&bytes[0..m], as_text);
-        }
-    }
+    let n = fill(reader, &mut bytes)?;
+    rest(reader)?;
+    let m = without_line_end(&bytes[0..n]);
+    answer_text(out, error, &bytes[0..m], as_text)
 }
 
-fn main() {
-    let a = argument::all();
+fn main(rt: HostRuntime) -> io::Result<()> {
+    let mut reader = rt.stdin();
+    let mut out = BufWriter::new(rt.alloc(), rt.stdout())?;
+    let mut error = rt.stderr();
+    let a = argument::all(&rt);
     if !a.known {
-        io::write_all(2, b"usage: program [text] [as-text]\n");
+        error.write_all(b"usage: program [text] [as-text]\n")?;
     } else if a.text {
-        text_input(a.as_text);
+        text_input(&mut reader, &mut out, &mut error, a.as_text)?;
     } else {
-        table(a.as_text);
+        table(&mut reader, &mut out, &mut error, a.as_text)?;
     }
+    out.flush()
 }

@@ -56,7 +56,7 @@ fixpoint-requires c =
     let word : WordAt c.args.table.now c.args.j c.read-w.result.kind c.read-w.result.left c.read-w.result.right = c.read-w.ensures in
     let slots : 3 * c.args.j + 2 < length c.args.draft.now = inside q in
     let small : c.args.j < 16384 = numbered q in
-    let until_like : Fixpoint conj disj (shape c.read-w.result.kind) = until_at _ (omega (arith, c.in_default-1.rest)) (omega arith) in
+    let until_like : Fixpoint conj disj (shape c.read-w.result.kind) = until_at _ (omega (arith, c.in_default.in_default-own.rest)) (omega arith) in
     let o = fixpoint-operands (q) (word) (until_like) in
     (slots, small, omega (arith, (word).below), omega arith, omega arith, o.0.below, o.1.below)
 
@@ -100,7 +100,7 @@ pub returns-in-8-to-9 : goal.returns-in-8-to-9
 returns-in-8-to-9 c =
     let q : Next c.args.sample c.args.table.now c.args.draft.now c.args.j = c.requires in
     let word : WordAt c.args.table.now c.args.j c.read-w.result.kind c.read-w.result.left c.read-w.result.right = c.read-w.ensures in
-    let until_like : Fixpoint conj disj (shape c.read-w.result.kind) = until_at _ (omega (arith, c.in_default-1.rest)) (omega arith) in
+    let until_like : Fixpoint conj disj (shape c.read-w.result.kind) = until_at _ (omega (arith, c.in_default.in_default-own.rest)) (omega arith) in
     rw c.fixpoint.ensures (fixpoint-filled (q) (word) (until_like))
 
 pub returns-in_default : goal.returns-in_default

@@ -1,25 +1,14 @@
 -- Nothing is drafted yet, and there is room.
-use native.Mathlib.Omega.{arith}
-use borrow.Author.Rules.{rules}
-use Rattle.number_rooms.proofs.Rooms.{zeros_long, still_long}
+use Rattle.std.proofs.Common.{arith}
 use Rattle.after_rooms.proofs.Rooms.{room_for, to_number, remainder_written}
 use Rattle.after_rooms.proofs.of_512.Goals as goal
-
-pub slice_bounds-fill-end : goal.slice_bounds-fill-end
-slice_bounds-fill-end c = zeros_long 1539
 
 pub fill-requires : goal.fill-requires
 fill-requires c = room_for 512 1539 c.requires (omega arith) (omega arith)
 
-pub slice_bounds-of_1539-end : goal.slice_bounds-of_1539-end
-slice_bounds-of_1539-end c = still_long 1539 c.fill.auto.1.1.0
-
 pub of_1539-requires : goal.of_1539-requires
 of_1539-requires c =
-    to_number 512 1539 c.requires _ c.fill.ensures (omega arith) c.fill.auto.1.1.0
-
-pub shape_of-res : goal.shape_of-res
-shape_of-res c = c.of_1539.auto.1.1.0
+    to_number 512 1539 c.requires _ c.fill.ensures (omega arith) c.fill.auto.draft
 
 pub returns : goal.returns
 returns c =

@@ -12,6 +12,7 @@ use Rattle.conjuncts.proofs.Forms.{kept_bit}
 use Rattle.choosing.proofs.Choosing.{word-plain, chosen_none, chosen_other, chosen_more}
 use Rattle.fixpoints.proofs.Positions.{kept_small}
 use Rattle.choosing.proofs.choose_words.Goals as goal
+use Rattle.choosing.proofs.choose_words.Goals.{then-is_fixpoint, else-is_fixpoint}
 
 pub loop-i-init : goal.loop-i-init
 loop-i-init c = (omega arith, refl, chosen_none _ c.requires.laid)
@@ -55,10 +56,10 @@ loop-i-preserved c =
     let h = c.loop-i-test.true in
     let q = c.loop-i.invariant in
     let is = c.is_fixpoint.ensures in
-    ⊎_elim
-    (λ x. let w = rw add-one at x.4.ensures in rw (x.7, add-one) (h, w.long ∙ q.1, chosen_more q.2 h w (kept_bit _ f.kept h x.1.ensures)))
-    (λ x. rw (x.1, add-one) (h, q.1, chosen_other q.2 h (omega (arith, ((accepted-well-formed true _ _ f.room.accepted).word _ h).plain refl)) (sym is ∙ x.0.left)))
-    c.if-is_fixpoint.branch
+    elim c.if-is_fixpoint.branch [
+      then-is_fixpoint x ↦ let w = rw add-one at x.choose_word.ensures in rw (x.draft-is, add-one) (h, w.long ∙ q.1, chosen_more q.2 h w (kept_bit _ f.kept h x.chosen-chosen.ensures))
+    | else-is_fixpoint x ↦ rw (x.draft-is, add-one) (h, q.1, chosen_other q.2 h (omega (arith, ((accepted-well-formed true _ _ f.room.accepted).word _ h).plain refl)) (sym is ∙ x.if-is_fixpoint.false))
+    ]
 
 pub shape_of-draft : goal.shape_of-draft
 shape_of-draft c = c.loop-i.invariant.1

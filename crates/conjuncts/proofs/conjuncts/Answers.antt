@@ -6,6 +6,7 @@ use borrow.Author.Rules.{rules}
 use Rattle.conjuncts.proofs.Conjoining.{Joining, joining_none, joining_other, joining_left, joining_room, joining_taken, joining_all}
 use Rattle.fixpoints.proofs.Positions.{kept_small}
 use Rattle.conjuncts.proofs.conjuncts.Goals as goal
+use Rattle.conjuncts.proofs.conjuncts.Goals.{then-chosen, else-chosen, else-is}
 
 pub loop-i-init : goal.loop-i-init
 loop-i-init c = joining_none c.requires
@@ -40,12 +41,11 @@ loop-i-preserved c =
     let s = c.loop-i.invariant in
     let h = c.loop-i-test.true in
     let g = c.is.ensures in
-    ⊎_elim
-    (λ x. rw (x.7, x.8) (joining_taken q s h g x.0.taken x.1.ensures x.2.taken x.4.ensures))
-    (⊎_elim
-    (λ x. rw (x.3, x.4) (joining_left q s h g x.0.taken x.1.ensures x.2.left))
-    (λ x. rw (x.1, x.2) (joining_other q s h g x.0.left)))
-    c.if-is.branch
+    elim c.if-is.branch [
+      then-chosen x ↦ rw (x.draft-is, x.next-is) (joining_taken q s h g x.if-is.true x.chosen.ensures x.if-chosen.true x.conjoin-next.ensures)
+    | else-chosen x ↦ rw (x.draft-is, x.next-is) (joining_left q s h g x.if-is.true x.chosen.ensures x.if-chosen.false)
+    | else-is x ↦ rw (x.draft-is, x.next-is) (joining_other q s h g x.if-is.false)
+    ]
 
 pub shape_of-draft : goal.shape_of-draft
 shape_of-draft c = c.loop-i.invariant.long

@@ -1,3 +1,4 @@
+use borrow.Author.Rules.{rules}
 use Prim.Native.Nat.{◌≤◌, ◌-◌, ◌/◌, min}
 use mathlib.Core.Path.{◌≡◌, refl}
 use mathlib.Core.List.{◌++◌}
@@ -12,8 +13,8 @@ pub loop-i-init : goal.loop-i-init
 unfolding decoded
 loop-i-init c =
     elim c.if-out-n.branch [
-      then-out-n w ↦ (omega arith, omega arith, omega arith, refl, refl, omega arith)
-    | else-out-n w ↦ (omega arith, omega arith, omega arith, refl, refl, omega arith)
+      | then-out-n w ↦ (omega arith, omega arith, omega arith, refl, refl, omega arith)
+      | else-out-n w ↦ (omega arith, omega arith, omega arith, refl, refl, omega arith)
     ]
 
 pub loop-i-preserved : goal.loop-i-preserved

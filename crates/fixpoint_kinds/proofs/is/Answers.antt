@@ -14,7 +14,7 @@ pub returns-in-11 : goal.returns-in-11
 returns-in-11 c = rw c.in-Least.is (picked _ c.kind-kind.ensures Least strong c.in-11.is (λ a b. refl))
 
 pub returns-in_default : goal.returns-in_default
-returns-in_default c = rw c.in-Least.is (passed_least _ c.kind-kind.ensures (kind_lt _ c.ranges.w.fits) c.in_default.rest.0.1 c.in_default.rest.1)
+returns-in_default c = rw c.in-Least.is (passed_least _ c.kind-kind.ensures (kind_lt _ c.ranges.w.fits) c.in_default.in_default-own.rest.0.1 c.in_default.in_default-own.rest.1)
 
 pub returns-in-9-to-10 : goal.returns-in-9-to-10
 returns-in-9-to-10 c = rw c.in-Greatest.is (picked-greatest _ c.kind-kind.ensures c.if-kind-lt9.false c.if-kind-lt11.true)

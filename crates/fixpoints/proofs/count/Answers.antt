@@ -11,6 +11,7 @@ use Rattle.fixpoints.specs.Positions.{bit_of}
 use Rattle.fixpoints.proofs.UntilLike.{bits_all}
 use Rattle.fixpoints.proofs.Positions.{Keeping, keeping_none, one_taken, one_left, keeping-bits, keeping-few, keeping_more, keeping_all}
 use Rattle.fixpoints.proofs.count.Goals as goal
+use Rattle.fixpoints.proofs.count.Goals.{then-is_fixpoint, else-is_fixpoint}
 
 pub loop-i-init : goal.loop-i-init
 loop-i-init c = (keeping_none _ _ c.requires.long, refl)
@@ -26,7 +27,7 @@ bounds-table-i c = c.loop-i-test.true
 
 pub overflow_add-bits : goal.overflow_add-bits
 overflow_add-bits c =
-    let one : c.if-is_fixpoint.one ≡ cond (is_fixpoint_word (get_or c.args.table.now c.loop-i.i 0)) 1 0 = ⊎_elim (λ x. one_taken c.is_fixpoint.ensures x.0.taken x.1) (λ x. one_left c.is_fixpoint.ensures x.0.left x.1) c.if-is_fixpoint.branch in
+    let one : c.if-is_fixpoint.one ≡ cond (is_fixpoint_word (get_or c.args.table.now c.loop-i.i 0)) 1 0 = elim c.if-is_fixpoint.branch [ then-is_fixpoint w ↦ one_taken c.is_fixpoint.ensures w.if-is_fixpoint.true w.one-is | else-is_fixpoint w ↦ one_left c.is_fixpoint.ensures w.if-is_fixpoint.false w.one-is ] in
     let few : bit_of c.args.table.now (length c.args.table.now) < 32 = omega (arith, bits_all (accepted-well-formed true _ _ c.requires.accepted), c.requires.few) in
     let q = c.loop-i.invariant.0 in
     let h = c.loop-i-test.true in
@@ -40,7 +41,7 @@ loop-i-smaller c = omega (arith, c.loop-i-test.true)
 
 pub loop-i-preserved : goal.loop-i-preserved
 loop-i-preserved c =
-    let one : c.if-is_fixpoint.one ≡ cond (is_fixpoint_word (get_or c.args.table.now c.loop-i.i 0)) 1 0 = ⊎_elim (λ x. one_taken c.is_fixpoint.ensures x.0.taken x.1) (λ x. one_left c.is_fixpoint.ensures x.0.left x.1) c.if-is_fixpoint.branch in
+    let one : c.if-is_fixpoint.one ≡ cond (is_fixpoint_word (get_or c.args.table.now c.loop-i.i 0)) 1 0 = elim c.if-is_fixpoint.branch [ then-is_fixpoint w ↦ one_taken c.is_fixpoint.ensures w.if-is_fixpoint.true w.one-is | else-is_fixpoint w ↦ one_left c.is_fixpoint.ensures w.if-is_fixpoint.false w.one-is ] in
     let few : bit_of c.args.table.now (length c.args.table.now) < 32 = omega (arith, bits_all (accepted-well-formed true _ _ c.requires.accepted), c.requires.few) in
     let q = c.loop-i.invariant in
     let h = c.loop-i-test.true in

@@ -1,7 +1,4 @@
 -- The proof of the cycle of calls {class_of}: the number falls.
-use Prim.Native.Nat.{ℕ, ◌<◌}
-use native.Mathlib.Omega.{arith}
-use borrow.Author.Rules.{rules}
 use Rattle.header_classes.proofs.+class_of.Given as goal
 
 abbrev pub decreases-class_of : goal.decreases-class_of

@@ -1,12 +1,7 @@
-use borrow.Author.Rules.{rules}
 use native.Mathlib.Omega.{arith}
 use mathlib.Core.Path.{sym, ◌∙◌}
 use Rattle.table.specs.Header.{class_of}
 use Rattle.header_classes.proofs.Headable.{some, plain-words, last_byte}
-use Rattle.header_classes.proofs.class_in.Reads as reads
-use Rattle.header_classes.proofs.class_in.Lts as lts
-use Rattle.class_bytes.proofs.fill.fill.Reads as fill-reads
-use Rattle.header_classes.proofs.is_written.Reads as is-written-reads
 use Rattle.header_classes.proofs.class_in.Goals as goal
 
 pub returns-then-is_written : goal.returns-then-is_written
@@ -22,7 +17,7 @@ overflow_sub-result c = some c.requires.0
 pub bounds-bytes-words : goal.bounds-bytes-words
 bounds-bytes-words c =
     let q = c.requires in
-    omega (arith, some q.0, q.1, c.fill.auto.1.0)
+    omega (arith, some q.0, q.1, c.fill.auto.bytes)
 
 pub returns : goal.returns
 returns c =

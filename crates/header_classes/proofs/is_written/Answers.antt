@@ -1,14 +1,7 @@
-use borrow.Author.Rules.{rules}
-use Prim.Native.Nat.{◌-◌}
 use native.Mathlib.Omega.{arith}
-use mathlib.Core.Path.{◌≡◌, refl, sym, ◌∙◌}
+use mathlib.Core.Path.{refl, sym, ◌∙◌}
 use borrow.Author.Tests.{le-leb, lt-leb}
-use lib.ListN.{length, drop}
-use Rattle.table.specs.Header.{is_written}
 use Rattle.header_classes.proofs.Headable.{written_step, written_none}
-use Rattle.header_classes.proofs.is_written.Reads as reads
-use Rattle.header_classes.proofs.is_written.Lts as lts
-use Rattle.word.proofs.kind.Reads as kind-reads
 use Rattle.header_classes.proofs.is_written.Goals as goal
 
 pub loop-i-init : goal.loop-i-init

@@ -1,15 +1,8 @@
 -- The invariant: kinds 12 to 15 occur exactly where they do among the words that are left.
-use borrow.Author.Rules.{rules}
 use Prim.Native.Nat.{◌-◌}
-use native.Mathlib.Omega.{arith}
-use mathlib.Core.Path.{◌≡◌, refl, sym, ◌∙◌}
-use borrow.Author.Tests.{le-leb, lt-leb}
+use mathlib.Core.Path.{◌≡◌}
 use lib.ListN.{length, drop}
 use Rattle.table.specs.Header.{is_written}
-use Rattle.header_classes.proofs.Headable.{written_step, written_none}
-use Rattle.header_classes.proofs.is_written.Reads as reads
-use Rattle.header_classes.proofs.is_written.Lts as lts
-use Rattle.word.proofs.kind.Reads as kind-reads
 use Rattle.header_classes.proofs.is_written.Given as goal
 
 abbrev pub invariant-loop-i : goal.invariant-loop-i

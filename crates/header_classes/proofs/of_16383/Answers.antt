@@ -1,4 +1,3 @@
-use borrow.Author.Rules.{rules}
 use native.Mathlib.Omega.{arith}
 use Rattle.header_classes.proofs.Headable.{few}
 use Rattle.header_classes.proofs.of_16383.Goals as goal

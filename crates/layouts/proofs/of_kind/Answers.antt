@@ -30,9 +30,16 @@ returns-in-3-to-4 c = in_range (Laid Letter) 3 1 c.args.kind (omega arith) (omeg
 pub returns-in_default : goal.returns-in_default
 returns-in_default c = absurd (omega (arith, c.requires.0))
 
+pub returns-in_default-2 : goal.returns-in_default-2
+returns-in_default-2 c = binary_kind_lem c.args.kind (omega arith) (omega arith) c.in_default.in_default-own.rest.1
+
 pub returns-in_default-3 : goal.returns-in_default-3
 unfolding shape
 returns-in_default-3 c = in_range (Laid Binary) 15 0 c.args.kind (omega arith) (omega arith) refl
+
+pub returns-in-7 : goal.returns-in-7
+unfolding shape
+returns-in-7 c = rw c.in-7.in-7-own.keys1
 
 pub returns-in-7-2 : goal.returns-in-7-2
 unfolding shape

@@ -64,7 +64,7 @@ fixpoint-requires c =
     let told : Moving (get_or c.args.bytes.now (c.args.j - 1) 0) (get_or c.args.starts.now c.args.j 0) c.args.upper c.moving-h.result = c.moving-h.ensures.0 in
     let slots : 7 * c.args.j + 6 < length c.args.draft.now = inside q in
     let small : c.args.j < 16384 = numbered q in
-    let until_like : Fixpoint conj disj (shape c.read.result.kind) = until_at _ (omega (arith, c.in_default-1.rest)) (omega arith) in
+    let until_like : Fixpoint conj disj (shape c.read.result.kind) = until_at _ (omega (arith, c.in_default.in_default-own.rest)) (omega arith) in
     let o = fixpoint-operands (q) (word) (told) (until_like) in
     (slots, small, c.moving-h.ensures.1, omega arith, omega arith, o.0.below, o.1.below)
 
@@ -112,7 +112,7 @@ returns-in-8-to-9 c =
     let q : Next c.args.sample c.args.upper c.args.words.now c.args.bytes.now c.args.starts.now c.args.draft.now c.args.j = c.requires in
     let word : WordAt c.args.words.now c.args.j c.read.result.kind c.read.result.left c.read.result.right = c.read.ensures in
     let told : Moving (get_or c.args.bytes.now (c.args.j - 1) 0) (get_or c.args.starts.now c.args.j 0) c.args.upper c.moving-h.result = c.moving-h.ensures.0 in
-    let until_like : Fixpoint conj disj (shape c.read.result.kind) = until_at _ (omega (arith, c.in_default-1.rest)) (omega arith) in
+    let until_like : Fixpoint conj disj (shape c.read.result.kind) = until_at _ (omega (arith, c.in_default.in_default-own.rest)) (omega arith) in
     rw c.fixpoint.ensures (fixpoint-filled (q) (word) (told) (until_like))
 
 pub returns-in_default : goal.returns-in_default

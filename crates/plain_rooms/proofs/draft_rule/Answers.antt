@@ -1,4 +1,3 @@
-use borrow.Author.Rules.{rules}
 use Rattle.table.specs.Table.{rule}
 use Rattle.plain_rooms.proofs.Start.{started}
 use Rattle.plain_rooms.proofs.draft_rule.Goals as goal
