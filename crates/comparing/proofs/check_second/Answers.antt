@@ -16,7 +16,7 @@ pub returns-then-first_driven-driven : goal.returns-then-first_driven-driven
 unfolding count_checks
 returns-then-first_driven-driven c =
     let a = c.args in
-    sym (first_append-accepted (recording_checks a.samples a.start a.driven) (count_checks a.first-driven a.driven)
+    sym (first_append-accepted (recording_checks a.samples a.start a.driven) (count_checks a.first_driven a.driven)
     (sym c.in-Accepted.ensures)
     ∙ rw (eq-eqb _ _ c.if-first_driven-driven.true))
 
@@ -24,6 +24,6 @@ pub returns-else-first_driven-driven : goal.returns-else-first_driven-driven
 unfolding count_checks
 returns-else-first_driven-driven c =
     let a = c.args in
-    sym (first_append-accepted (recording_checks a.samples a.start a.driven) (count_checks a.first-driven a.driven)
+    sym (first_append-accepted (recording_checks a.samples a.start a.driven) (count_checks a.first_driven a.driven)
     (sym c.in-Accepted.ensures)
     ∙ rw (ne_eqb _ _ c.if-first_driven-driven.false))
