@@ -5,7 +5,6 @@ use mathlib.Core.Bool.{cond}
 use native.Mathlib.Omega.{arith}
 use lib.ListN.{length, get_or}
 use lib.Dec.{ltb}
-use borrow.Author.Tests.{not-true, not-false}
 use Rattle.logic.specs.Lasso.{place}
 use Rattle.logic.proofs.Lasso.Period.{place_below, place_lt}
 use Rattle.agreement.specs.Comparing.{alike, difference_in, window}
@@ -31,7 +30,7 @@ returns-then-not-alike c =
     let told : c.alike.result ≡ alike a.driven (reading a.samples.now a.start c.loop-i.i) (reading a.others.now a.other_start c.loop-i.i) = c.alike.ensures a.driven c.driven_bits-bits.ensures
     ∙ ap₂ (alike a.driven) (ap (λ (p : ℕ). get_or a.samples.now p 0) inv.3) (ap (λ (p : ℕ). get_or a.others.now p 0) inv.4) in
     let searched = compared-reading a.samples.now a.start a.others.now a.other_start a.driven c.requires.2 c.requires.3 c.requires.4 ∙ inv.5 in
-    sym (searched ∙ passed_differ _ _ _ _ _ c.loop-i-test.true (sym told ∙ not-true c.alike.result c.if-not-alike.true))
+    sym (searched ∙ passed_differ _ _ _ _ _ c.loop-i-test.true (sym told ∙ c.if-not-alike.true))
 
 pub loop-i-smaller : goal.loop-i-smaller
 loop-i-smaller c = omega arith
@@ -54,7 +53,7 @@ loop-i-preserved c =
       omega (arith, other, place_lt (length a.others.now) a.other_start (c.loop-i.i + 1) c.requires.3),
       at,
       other,
-      inv.5 ∙ passed_same _ _ _ _ _ c.loop-i-test.true (sym told ∙ not-false c.alike.result c.if-not-alike.false),
+      inv.5 ∙ passed_same _ _ _ _ _ c.loop-i-test.true (sym told ∙ c.if-not-alike.false),
     )
 
 pub returns : goal.returns
