@@ -57,8 +57,8 @@ loop-i-preserved c =
       at,
       other,
       inv.5
-      ∙ passed_same _ _ _ _ _ c.loop-i-test.true
-      (sym (told _ _ a.start a.other_start _ _ _ _ (c.alike.ensures a.driven c.driven_bits-bits.ensures) inv.3 inv.4) ∙ c.if-not-alike.false),
+          ∙ passed_same _ _ _ _ _ c.loop-i-test.true
+          (sym (told _ _ a.start a.other_start _ _ _ _ (c.alike.ensures a.driven c.driven_bits-bits.ensures) inv.3 inv.4) ∙ c.if-not-alike.false),
     )
 
 pub returns : goal.returns

@@ -18,4 +18,7 @@ row_reply-requires c e =
 pub returns : goal.returns
 returns c =
     let e = c.fill-outcome.ensures in
-    (reply-told c.args.table.now e.value c.row_reply.ensures, scratch-told _ _ _ _ _ e.value e.scratch_after)
+    record {
+      row_reply = reply-told c.args.table.now e.value c.row_reply.ensures;
+      scratch_after = scratch-told _ _ _ _ _ e.value e.scratch_after;
+    }

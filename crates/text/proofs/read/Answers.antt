@@ -32,8 +32,8 @@ pub returns-then-place-ne0 : goal.returns-then-place-ne0
 returns-then-place-ne0 c =
     let a = c.args in
     let q =
-        outcome_departs a.limits a.text.now a.res.now (sym c.permitted.ensures ∙ c.if-not-permitted.false) c.if-text-gt1024.false _
-        (c.parse-place.ensures.departs (omega (arith, c.if-place-ne0.true)))
+    outcome_departs a.limits a.text.now a.res.now (sym c.permitted.ensures ∙ c.if-not-permitted.false) c.if-text-gt1024.false _
+    (c.parse-place.ensures.departs (omega (arith, c.if-place-ne0.true)))
     in
     record { value = q.0; res_after = q.1 }
 
@@ -44,8 +44,8 @@ returns-then-limits-n c =
     let read = p.reads c.if-place-ne0.false in
     let few : length (table_of read.0) ≡ c.count-n.result = counted p c.if-place-ne0.false _ c.count-n.ensures in
     let q =
-        outcome_many a.limits a.text.now a.res.now (sym c.permitted.ensures ∙ c.if-not-permitted.false) c.if-text-gt1024.false read.0 read.1
-        (omega (arith, few, c.if-limits-n.true))
+    outcome_many a.limits a.text.now a.res.now (sym c.permitted.ensures ∙ c.if-not-permitted.false) c.if-text-gt1024.false read.0 read.1
+    (omega (arith, few, c.if-limits-n.true))
     in
     record { value = q.0; res_after = q.1 }
 
@@ -75,7 +75,7 @@ returns c =
     let read = p.reads c.if-place-ne0.false in
     let few : length (table_of read.0) ≡ c.count-n.result = counted p c.if-place-ne0.false _ c.count-n.ensures in
     let q =
-        outcome_given a.limits a.text.now a.res.now (sym c.permitted.ensures ∙ c.if-not-permitted.false) c.if-text-gt1024.false read.0 read.1
-        (omega (arith, few, c.if-limits-n.false)) (copied p c.if-place-ne0.false _ c.count-n.ensures) c.write.ensures
+    outcome_given a.limits a.text.now a.res.now (sym c.permitted.ensures ∙ c.if-not-permitted.false) c.if-text-gt1024.false read.0 read.1
+    (omega (arith, few, c.if-limits-n.false)) (copied p c.if-place-ne0.false _ c.count-n.ensures) c.write.ensures
     in
     record { value = q.0; res_after = q.1 }

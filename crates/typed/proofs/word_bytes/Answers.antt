@@ -1,6 +1,5 @@
 -- A word's bytes by its sort: each arm of the match in turn.
 use native.Mathlib.Omega.{arith}
-use borrow.Author.Rules.{rules}
 use Rattle.table.proofs.Fields.{kind_lt}
 use Rattle.typed.proofs.Counting.{bytes_by, sorted}
 use Rattle.typed.proofs.word_bytes.Goals as goal
