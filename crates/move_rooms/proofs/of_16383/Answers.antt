@@ -15,20 +15,20 @@ fill-root-requires c = let q = c.requires in (q.0, room_for 16383 114688 q.1 (ze
 
 pub slice_bounds-of_114688-end : goal.slice_bounds-of_114688-end
 slice_bounds-of_114688-end c =
-    let long : 114688 ≡ length c.fill-root.new.1.1.1.1.1.1.1.0 = still_long 114688 c.fill-root.auto.1.1.1.1.1.1.1.0 in
+    let long : 114688 ≡ length c.fill-root.new.draft = still_long 114688 c.fill-root.auto.draft in
     long
 
 pub of_114688-requires : goal.of_114688-requires
 of_114688-requires c =
-    let long : 114688 ≡ length c.fill-root.new.1.1.1.1.1.1.1.0 = still_long 114688 c.fill-root.auto.1.1.1.1.1.1.1.0 in
+    let long : 114688 ≡ length c.fill-root.new.draft = still_long 114688 c.fill-root.auto.draft in
     let a = c.args in
     to_number 16383 114688 c.requires.1 (as_formula (written_at a.words.now a.state a.sample)) c.fill-root.ensures.0 (long) (omega arith)
 
 pub shape_of-res : goal.shape_of-res
-shape_of-res c = c.of_114688.auto.1.1.0
+shape_of-res c = c.of_114688.auto.res
 
 pub returns : goal.returns
 returns c =
-    let long : 114688 ≡ length c.fill-root.new.1.1.1.1.1.1.1.0 = still_long 114688 c.fill-root.auto.1.1.1.1.1.1.1.0 in
+    let long : 114688 ≡ length c.fill-root.new.draft = still_long 114688 c.fill-root.auto.draft in
     let q = c.requires in
     moved 16383 114688 q.1 q.0 c.fill-root.ensures (long) (omega arith) c.of_114688.ensures

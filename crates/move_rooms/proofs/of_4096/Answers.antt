@@ -15,20 +15,20 @@ fill-root-requires c = let q = c.requires in (q.0, room_for 4096 28679 q.1 (zero
 
 pub slice_bounds-of_32768-end : goal.slice_bounds-of_32768-end
 slice_bounds-of_32768-end c =
-    let long : 28679 ≡ length c.fill-root.new.1.1.1.1.1.1.1.0 = still_long 28679 c.fill-root.auto.1.1.1.1.1.1.1.0 in
+    let long : 28679 ≡ length c.fill-root.new.draft = still_long 28679 c.fill-root.auto.draft in
     long
 
 pub of_32768-requires : goal.of_32768-requires
 of_32768-requires c =
-    let long : 28679 ≡ length c.fill-root.new.1.1.1.1.1.1.1.0 = still_long 28679 c.fill-root.auto.1.1.1.1.1.1.1.0 in
+    let long : 28679 ≡ length c.fill-root.new.draft = still_long 28679 c.fill-root.auto.draft in
     let a = c.args in
     asked_larger (to_number 4096 28679 c.requires.1 (as_formula (written_at a.words.now a.state a.sample)) c.fill-root.ensures.0 (long) (omega arith)) (omega arith)
 
 pub shape_of-res : goal.shape_of-res
-shape_of-res c = c.of_32768.auto.1.1.0
+shape_of-res c = c.of_32768.auto.res
 
 pub returns : goal.returns
 returns c =
-    let long : 28679 ≡ length c.fill-root.new.1.1.1.1.1.1.1.0 = still_long 28679 c.fill-root.auto.1.1.1.1.1.1.1.0 in
+    let long : 28679 ≡ length c.fill-root.new.draft = still_long 28679 c.fill-root.auto.draft in
     let q = c.requires in
     moved 4096 28679 q.1 q.0 c.fill-root.ensures (long) (omega arith) c.of_32768.ensures
