@@ -1,7 +1,7 @@
 -- Demand 2: in every accepted call, for every word and every position, those of the endless repeat included, the bit of the
 -- word's row at the position's place is 1 if and only if the word's formula holds there by the definition over all later positions. A table is
 -- handed over with its header, and its words are those after it.
-use Prim.Native.Nat.{ℕ, zero, suc, ◌+◌, ◌-◌, ◌*◌, ◌/◌, ◌%◌, ◌≤◌, ◌<◌}
+use Prim.Native.Nat.{ℕ, zero, suc, ◌+◌, ◌*◌, ◌/◌, ◌%◌, ◌≤◌, ◌<◌}
 use native.Mathlib.Nat.{add-zero, zero-add, eq-or-lt_of_le}
 use native.Mathlib.Numerals.{add-one}
 use mathlib.Core.Path.{◌≡◌, refl, sym, ap, subst, ◌∙◌}

@@ -58,7 +58,7 @@ pub fn fill_rows(table: &[u32], samples: &[u32], start: usize, scratch: &mut [u6
     let mut a = [0u64; 64];
     let mut b = [0u64; 64];
     let mut j = 0;
-    while j < table.len() {
+    'each: while j < table.len() {
         fill_row(
             table,
             j,

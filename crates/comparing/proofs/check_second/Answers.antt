@@ -1,6 +1,5 @@
 -- The recording's checks, and where they pass that of the two counts.
 use mathlib.Core.Path.{sym, ◌∙◌}
-use borrow.Author.Rules.{rules}
 use borrow.Author.Tests.{eq-eqb, ne_eqb}
 use Rattle.refusals.proofs.First.{first_append-accepted, first_append-refused}
 use Rattle.judge_conditions.specs.Checks.{recording_checks}
@@ -16,7 +15,7 @@ pub returns-then-first_driven-driven : goal.returns-then-first_driven-driven
 unfolding count_checks
 returns-then-first_driven-driven c =
     let a = c.args in
-    sym (first_append-accepted (recording_checks a.samples a.start a.driven) (count_checks a.first-driven a.driven)
+    sym (first_append-accepted (recording_checks a.samples a.start a.driven) (count_checks a.first_driven a.driven)
     (sym c.in-Accepted.ensures)
     ∙ rw (eq-eqb _ _ c.if-first_driven-driven.true))
 
@@ -24,6 +23,6 @@ pub returns-else-first_driven-driven : goal.returns-else-first_driven-driven
 unfolding count_checks
 returns-else-first_driven-driven c =
     let a = c.args in
-    sym (first_append-accepted (recording_checks a.samples a.start a.driven) (count_checks a.first-driven a.driven)
+    sym (first_append-accepted (recording_checks a.samples a.start a.driven) (count_checks a.first_driven a.driven)
     (sym c.in-Accepted.ensures)
     ∙ rw (ne_eqb _ _ c.if-first_driven-driven.false))

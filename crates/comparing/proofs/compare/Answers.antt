@@ -1,7 +1,6 @@
 -- Refused by the first check that applies; else two recordings, with all that a comparison rests on.
 use mathlib.Core.Path.{◌≡◌, sym, ap, ◌∙◌}
 use Prim.Native.Nat.{ℕ}
-use borrow.Author.Rules.{rules}
 use lib.ListN.{length}
 use Rattle.refusals.specs.declared.Outcome.TheVariants.{Accepted}
 use Rattle.refusals.specs.Refusals.{first}
@@ -12,20 +11,20 @@ use Rattle.comparing.proofs.compare.Goals as goal
 
 pub first_difference-requires : goal.first_difference-requires
 first_difference-requires c =
-    let passed : first (comparison_checks (length c.args.samples.now) c.args.start c.args.driven (length c.args.others.now) c.args.other-start c.args.other-driven) ≡ Accepted = sym c.in-Accepted.ensures in
-    let facts : Comparable c.args.samples.now c.args.start c.args.driven c.args.others.now c.args.other-start c.args.other-driven = comparable _ _ _ _ _ _ passed in
+    let passed : first (comparison_checks (length c.args.samples.now) c.args.start c.args.driven (length c.args.others.now) c.args.other_start c.args.other_driven) ≡ Accepted = sym c.in-Accepted.ensures in
+    let facts : Comparable c.args.samples.now c.args.start c.args.driven c.args.others.now c.args.other_start c.args.other_driven = comparable _ _ _ _ _ _ passed in
     let f = facts in (f.few_samples, f.few_samples', f.inside, f.inside', f.few)
 
 pub returns-in-Refused : goal.returns-in-Refused
 returns-in-Refused c =
     let a = c.args in
-    sym (refused a.samples.now a.start a.driven a.others.now a.other-start a.other-driven _ (sym c.in-Refused.ensures))
+    sym (refused a.samples.now a.start a.driven a.others.now a.other_start a.other_driven _ (sym c.in-Refused.ensures))
 
 pub returns-in-Accepted : goal.returns-in-Accepted
 returns-in-Accepted c =
-    let passed : first (comparison_checks (length c.args.samples.now) c.args.start c.args.driven (length c.args.others.now) c.args.other-start c.args.other-driven) ≡ Accepted = sym c.in-Accepted.ensures in
-    let facts : Comparable c.args.samples.now c.args.start c.args.driven c.args.others.now c.args.other-start c.args.other-driven = comparable _ _ _ _ _ _ passed in
+    let passed : first (comparison_checks (length c.args.samples.now) c.args.start c.args.driven (length c.args.others.now) c.args.other_start c.args.other_driven) ≡ Accepted = sym c.in-Accepted.ensures in
+    let facts : Comparable c.args.samples.now c.args.start c.args.driven c.args.others.now c.args.other_start c.args.other_driven = comparable _ _ _ _ _ _ passed in
     let a = c.args in
     c.first_difference.ensures
-    ∙ ap (λ (k : ℕ). compared (lasso_of a.samples.now a.start a.driven) (lasso_of a.others.now a.other-start k)) (facts).counts
-    ∙ sym (accepted a.samples.now a.start a.driven a.others.now a.other-start a.other-driven (passed))
+    ∙ ap (λ (k : ℕ). compared (lasso_of a.samples.now a.start a.driven) (lasso_of a.others.now a.other_start k)) (facts).counts
+    ∙ sym (accepted a.samples.now a.start a.driven a.others.now a.other_start a.other_driven (passed))

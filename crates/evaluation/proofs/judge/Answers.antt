@@ -38,10 +38,8 @@ judge_accepted-requires c =
 pub returns-in-Refused : goal.returns-in-Refused
 unfolding judge_outcome
 returns-in-Refused c =
-    let t : List ℕ = c.args.table.now in
-    let told : judge_outcome t c.args.samples.now c.args.start c.args.driven c.args.scratch.now c.args.desk ≡ Accepted = sym c.in-Accepted.ensures in
     let told = sym c.in-Refused.ensures in
-    (refused-reply _ _ _ _ _ _ _ told, refused-scratch _ _ _ _ _ told)
+    record { value = refused-reply _ _ _ _ _ _ _ told; scratch_after = refused-scratch _ _ _ _ _ told }
 
 pub returns-in-Accepted : goal.returns-in-Accepted
 returns-in-Accepted c =
@@ -49,5 +47,7 @@ returns-in-Accepted c =
     let told : judge_outcome t c.args.samples.now c.args.start c.args.driven c.args.scratch.now c.args.desk ≡ Accepted = sym c.in-Accepted.ensures in
     let rows : row_outcome t c.args.samples.now c.args.start c.args.driven c.args.scratch.now ≡ Accepted = judge_rows _ _ _ _ _ _ told in
     let few = (accepted-facts _ _ _ _ _ (rows)).few_driven in
-    let made = rw (whole_body (t)) at c.judge_accepted.ensures in
-    (made.0 _ few (judge_desk _ _ _ _ _ _ (told)).1 ∙ accepted-reply _ _ _ _ _ _ (told), made.1 _ few ∙ accepted-scratch _ _ _ _ _ (told))
+    record {
+      value = rw (whole_body t) at (c.judge_accepted.ensures.by_index _ few (judge_desk _ _ _ _ _ _ told).1) ∙ accepted-reply _ _ _ _ _ _ told;
+      scratch_after = rw (whole_body t) at (c.judge_accepted.ensures.by_index_2 _ few) ∙ accepted-scratch _ _ _ _ _ told;
+    }

@@ -20,36 +20,33 @@ overflow_sub-from c = some_word _ _ _ _ _ _ c.requires refl c.row_words-words.en
 
 pub overflow_mul-from : goal.overflow_mul-from
 overflow_mul-from c =
-    let small : (length c.args.table.now - 1) * c.row_words-words.result + c.row_words-words.result ≤ 1048576 = last_small _ _ _ _ _ _ c.requires refl c.row_words-words.ensures in
-    omega (arith, small)
+    omega (arith, last_small _ _ _ _ _ _ c.requires refl c.row_words-words.ensures)
 
 pub overflow_add-to : goal.overflow_add-to
 overflow_add-to c =
-    let small : (length c.args.table.now - 1) * c.row_words-words.result + c.row_words-words.result ≤ 1048576 = last_small _ _ _ _ _ _ c.requires refl c.row_words-words.ensures in
-    omega (arith, small)
+    omega (arith, last_small _ _ _ _ _ _ c.requires refl c.row_words-words.ensures)
 
 pub offset_bounds-scratch-from : goal.offset_bounds-scratch-from
 offset_bounds-scratch-from c =
-    let small : (length c.args.table.now - 1) * c.row_words-words.result + c.row_words-words.result ≤ 1048576 = last_small _ _ _ _ _ _ c.requires refl c.row_words-words.ensures in
-    omega (arith, small)
+    omega (arith, last_small _ _ _ _ _ _ c.requires refl c.row_words-words.ensures)
 
 pub slice_bounds-read_answer-end : goal.slice_bounds-read_answer-end
 slice_bounds-read_answer-end c =
-    let still-fillable : Fillable c.args.table.now c.args.samples.now c.args.start c.fill_rows.new.1.1.1.0 = fillable-length _ _ c.fill_rows.auto.1.1.1.0 c.requires in
+    let still-fillable : Fillable c.args.table.now c.args.samples.now c.args.start c.fill_rows.new.scratch = fillable-length _ _ c.fill_rows.auto.scratch c.requires in
     last_end _ _ _ _ _ _ still-fillable refl c.row_words-words.ensures
 
 pub read_answer-requires : goal.read_answer-requires
 read_answer-requires c =
-    let still-fillable : Fillable c.args.table.now c.args.samples.now c.args.start c.fill_rows.new.1.1.1.0 = fillable-length _ _ c.fill_rows.auto.1.1.1.0 c.requires in
+    let still-fillable : Fillable c.args.table.now c.args.samples.now c.args.start c.fill_rows.new.scratch = fillable-length _ _ c.fill_rows.auto.scratch c.requires in
     last_for _ _ _ _ _ _ still-fillable refl c.row_words-words.ensures
 
 pub returns : goal.returns
 returns c =
-    let still-fillable : Fillable c.args.table.now c.args.samples.now c.args.start c.fill_rows.new.1.1.1.0 = fillable-length _ _ c.fill_rows.auto.1.1.1.0 c.requires in
-    (
-  λ driven few e.
-      accepted-answer _ _ _ driven _ _ _ c.requires.inside few e
-      (last_row_lem _ _ _ _ _ _ still-fillable refl c.row_words-words.ensures driven few _ (c.fill_rows.ensures driven few))
-      c.read_answer.ensures,
-  c.fill_rows.ensures,
-)
+    let still-fillable : Fillable c.args.table.now c.args.samples.now c.args.start c.fill_rows.new.scratch = fillable-length _ _ c.fill_rows.auto.scratch c.requires in
+    record {
+      by_index = λ driven few e.
+          accepted-answer _ _ _ driven _ _ _ c.requires.inside few e
+          (last_row_lem _ _ _ _ _ _ still-fillable refl c.row_words-words.ensures driven few _ (c.fill_rows.ensures driven few))
+          c.read_answer.ensures;
+      by_index_2 = c.fill_rows.ensures;
+    }

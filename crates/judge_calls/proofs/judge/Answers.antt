@@ -8,4 +8,4 @@ use Rattle.judge_calls.proofs.judge.Goals as goal
 pub returns : goal.returns
 returns c =
     let e = c.judge-judged.ensures in
-    (judge_replied (ap (λ (j : Judged). j.answer) e.0) c.judge_reply-number.ensures, (ap (λ (j : Judged). j.tally) e.0, e.1))
+    (judge_replied (ap (λ (j : Judged). j.answer) e.value) c.judge_reply-number.ensures, (ap (λ (j : Judged). j.tally) e.value, e.scratch_after))

@@ -1,7 +1,6 @@
 use mathlib.Core.Path.{sym, ap, ◌∙◌}
 use Rattle.refusals.specs.declared.Report.{Report}
 use Rattle.judge_laws.specs.Answers.{said}
-use borrow.Author.Rules.{rules}
 use Rattle.judge_replies.proofs.judge_reply.Goals as goal
 
 pub returns-in-Judged : goal.returns-in-Judged

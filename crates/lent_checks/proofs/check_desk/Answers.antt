@@ -1,5 +1,4 @@
 -- A desk without a tally is refused, and then a full tally.
-use borrow.Author.Rules.{rules}
 use borrow.Author.Tests.{le-leb, lt-leb}
 use mathlib.Core.Path.{sym, ◌∙◌}
 use Rattle.judge_conditions.specs.Checks.{desk_checks}

@@ -1,5 +1,4 @@
 -- The letters' checks, and where they pass the scratch's.
-use borrow.Author.Rules.{rules}
 use mathlib.Core.Path.{sym, ◌∙◌}
 use Rattle.table.specs.StepChecks.{letter_checks}
 use Rattle.refusals.proofs.First.{first_append-accepted, first_append-refused}

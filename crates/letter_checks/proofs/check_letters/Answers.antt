@@ -1,8 +1,5 @@
-use Prim.Native.Nat.{◌-◌}
-use borrow.Author.Rules.{rules}
-use lib.ListN.{length}
 use native.Mathlib.Omega.{arith}
-use Rattle.letter_checks.proofs.Letters.{Passing, passing_none, passing_refused, passing_next, passing_all}
+use Rattle.letter_checks.proofs.Letters.{passing_none, passing_refused, passing_next, passing_all}
 use Rattle.letter_checks.proofs.check_letters.Goals as goal
 
 pub loop-i-init : goal.loop-i-init

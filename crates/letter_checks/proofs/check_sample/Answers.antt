@@ -1,5 +1,4 @@
 -- The driven count, and where it passes the letters.
-use borrow.Author.Rules.{rules}
 use borrow.Author.Tests.{lt-ltb, le-ltb}
 use Rattle.table.specs.StepChecks.{driven_checks}
 use Rattle.letter_checks.proofs.check_sample.Goals as goal

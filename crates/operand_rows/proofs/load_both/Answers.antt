@@ -1,5 +1,4 @@
 -- One row after the other.
-use borrow.Author.Rules.{rules}
 use Rattle.operand_rows.proofs.load_both.Goals as goal
 
 pub returns : goal.returns

@@ -1,17 +1,16 @@
 -- Each operator's connectives; a constant and a letter read nothing.
-use borrow.Author.Rules.{rules}
 use mathlib.Core.Path.{ap}
 use Rattle.operators.specs.Looped.{does}
 use Rattle.operand_rows.proofs.prepare.Goals as goal
 
 pub load-requires : goal.load-requires
-load-requires c = (c.requires.0.0, c.requires.1 _ (ap does c.in-Each.is))
+load-requires c = record { row_for = c.requires.row_for.0; standing = c.requires.standing _ (ap does c.in-Each.is) }
 
 pub load-requires-in-Next : goal.load-requires-in-Next
-load-requires-in-Next c = (c.requires.0.0, c.requires.1 _ (ap does c.in-Next.is))
+load-requires-in-Next c = record { row_for = c.requires.row_for.0; standing = c.requires.standing _ (ap does c.in-Next.is) }
 
 pub load_both-requires : goal.load_both-requires
-load_both-requires c = (c.requires.0, c.requires.1 _ (ap does c.in-Fixpoint.is))
+load_both-requires c = record { row_for = c.requires.row_for; standing = c.requires.standing _ (ap does c.in-Fixpoint.is) }
 
 pub returns-in-Constant : goal.returns-in-Constant
 returns-in-Constant c f g h = rw c.in-Constant.is tt

@@ -1,15 +1,14 @@
 -- Each operator's writer makes the sequence that the operator stands for.
-use borrow.Author.Rules.{rules}
 use mathlib.Core.Path.{ap}
 use native.Mathlib.Omega.{arith}
 use Rattle.operators.specs.Looped.{does}
 use Rattle.operand_rows.proofs.write_word.Goals as goal
 
 pub overflow_cast-letter : goal.overflow_cast-letter
-overflow_cast-letter c = omega (arith, c.requires.1.1 _ (ap does c.in-Letter.is))
+overflow_cast-letter c = omega (arith, c.requires.le_letter _ (ap does c.in-Letter.is))
 
-pub write_letter-requires : goal.write_letter-requires
-write_letter-requires c = (c.requires.0, c.requires.1.1 _ (ap does c.in-Letter.is))
+pub write_letter-requires-clause-le_letter : goal.write_letter-requires-clause-le_letter
+write_letter-requires-clause-le_letter c = c.requires.le_letter _ (ap does c.in-Letter.is)
 
 pub returns-in-Constant : goal.returns-in-Constant
 returns-in-Constant c f g p = rw c.in-Constant.is c.write_constant.ensures

@@ -8,7 +8,7 @@ use Rattle.row_call.proofs.row.Goals as goal
 
 pub row_reply-requires : goal.row_reply-requires
 row_reply-requires c e =
-    let accepted = sym c.fill-outcome.ensures.0 ∙ e in
+    let accepted = sym c.fill-outcome.ensures.value ∙ e in
     let facts = accepted-fillable _ _ _ _ _ accepted in (
       accepted-words _ _ _ _ _ accepted,
       facts.few,
@@ -18,4 +18,7 @@ row_reply-requires c e =
 pub returns : goal.returns
 returns c =
     let e = c.fill-outcome.ensures in
-    (reply-told c.args.table.now e.0 c.row_reply.ensures, scratch-told _ _ _ _ _ e.0 e.1)
+    record {
+      row_reply = reply-told c.args.table.now e.value c.row_reply.ensures;
+      scratch_after = scratch-told _ _ _ _ _ e.value e.scratch_after;
+    }

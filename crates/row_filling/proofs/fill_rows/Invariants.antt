@@ -1,21 +1,16 @@
 -- The loop's invariant: the rows of the words passed stand at the start of the scratch, and past them its own words.
 use Prim.Native.Nat.{ℕ, ◌-◌, ◌≤◌}
-use lib.ListN.{length, take, length-take}
-use lib.Seq.{length_front}
-use mathlib.Core.Path.{◌≡◌, refl, ◌∙◌}
-use native.Mathlib.Omega.{arith}
+use lib.ListN.{length, take}
+use mathlib.Core.Path.{◌≡◌}
 use Rattle.table_rows.specs.Rows.{lasso_of, rows_then}
-use Rattle.table_rows.proofs.Rows.{rows_then_none}
-use Rattle.table_rows.proofs.Parts.{fillable-length}
-use Rattle.row_filling.proofs.WordRow.{rows_stand, rows_next, rows_all}
 use Rattle.table.specs.Table.{formulas}
 use Rattle.row_filling.proofs.fill_rows.Given as goal
 
-abbrev pub invariant-loop-j : goal.invariant-loop-j
-invariant-loop-j l = (l.j ≤ length l.table)
+abbrev pub invariant-each : goal.invariant-each
+invariant-each l = (l.j ≤ length l.table)
     × (length l.scratch ≡ length l.initial.scratch)
     × ((driven : ℕ) → driven ≤ 32 → l.scratch ≡ rows_then (lasso_of l.samples l.start driven) (take l.j (formulas l.table)) l.initial.scratch)
     × (length l.a ≡ 64) × (length l.b ≡ 64)
 
-abbrev pub decreases-loop-j : goal.decreases-loop-j
-decreases-loop-j l = length l.table - l.j
+abbrev pub decreases-each : goal.decreases-each
+decreases-each l = length l.table - l.j

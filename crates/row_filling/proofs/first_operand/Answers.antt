@@ -1,5 +1,4 @@
 -- A left field of 0 is that of a word with one operand.
-use borrow.Author.Rules.{rules}
 use borrow.Author.Tests.{eq-eqb, ne_eqb}
 use Rattle.row_filling.specs.Filling.{first_operand}
 use Rattle.row_filling.proofs.first_operand.Goals as goal

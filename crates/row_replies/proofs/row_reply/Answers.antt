@@ -1,6 +1,5 @@
 -- The rule's own row is the last of the rows that the row call writes.
 use Prim.Native.Nat.{ℕ, ◌+◌, ◌*◌, ◌≤◌}
-use borrow.Author.Rules.{rules}
 use mathlib.Core.Path.{◌≡◌, ap}
 use native.Mathlib.Omega.{arith}
 use Rattle.refusals.specs.declared.Report.{Report}

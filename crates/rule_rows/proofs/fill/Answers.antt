@@ -33,11 +33,14 @@ fill_rows-requires c =
 
 pub returns-in-Refused : goal.returns-in-Refused
 unfolding row_outcome scratch_after
-returns-in-Refused c = (sym c.in-Refused.is ∙ c.check_row.ensures, refl)
+returns-in-Refused c = record { value = sym c.in-Refused.is ∙ c.check_row.ensures; scratch_after = refl }
 
 pub returns-in-Accepted : goal.returns-in-Accepted
 unfolding scratch_after
 returns-in-Accepted c =
     let t : List ℕ = c.args.table.now in
     let told : row_outcome t c.args.samples.now c.args.start c.args.driven c.args.scratch.now ≡ Accepted = sym c.in-Accepted.ensures in
-    (sym (told), rw (whole_body (t)) at (c.fill_rows.ensures _ (accepted-facts _ _ _ _ _ (told)).few_driven))
+    record {
+      value = sym told;
+      scratch_after = rw (whole_body t) at (c.fill_rows.ensures _ (accepted-facts _ _ _ _ _ told).few_driven);
+    }

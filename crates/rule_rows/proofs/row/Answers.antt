@@ -19,20 +19,20 @@ use Rattle.rule_rows.proofs.row.Goals as goal
 pub row_words-words-requires : goal.row_words-words-requires
 row_words-words-requires c =
     let t : List ℕ = c.args.table.now in
-    let accepted : row_outcome t c.args.samples.now c.args.start c.args.driven c.args.scratch.now ≡ Accepted = sym c.fill.ensures.0 ∙ c.in-Accepted.is in
+    let accepted : row_outcome t c.args.samples.now c.args.start c.args.driven c.args.scratch.now ≡ Accepted = sym c.fill.ensures.value ∙ c.in-Accepted.is in
     let fillable : Fillable (body t) c.args.samples.now c.args.start c.args.scratch.now = accepted-fillable _ _ _ _ _ accepted in
     (fillable).few
 
 pub overflow_sub-from : goal.overflow_sub-from
 overflow_sub-from c =
     let t : List ℕ = c.args.table.now in
-    let accepted : row_outcome t c.args.samples.now c.args.start c.args.driven c.args.scratch.now ≡ Accepted = sym c.fill.ensures.0 ∙ c.in-Accepted.is in
+    let accepted : row_outcome t c.args.samples.now c.args.start c.args.driven c.args.scratch.now ≡ Accepted = sym c.fill.ensures.value ∙ c.in-Accepted.is in
     omega (arith, accepted-words _ _ _ _ _ (accepted))
 
 pub overflow_mul-from : goal.overflow_mul-from
 overflow_mul-from c =
     let t : List ℕ = c.args.table.now in
-    let accepted : row_outcome t c.args.samples.now c.args.start c.args.driven c.args.scratch.now ≡ Accepted = sym c.fill.ensures.0 ∙ c.in-Accepted.is in
+    let accepted : row_outcome t c.args.samples.now c.args.start c.args.driven c.args.scratch.now ≡ Accepted = sym c.fill.ensures.value ∙ c.in-Accepted.is in
     let fillable : Fillable (body t) c.args.samples.now c.args.start c.args.scratch.now = accepted-fillable _ _ _ _ _ accepted in
     let small : (length (t) - 2) * c.row_words-words.result + c.row_words-words.result ≤ 1048576 = last_small _ _ _ _ _ _ (fillable) (words_before (t)) c.row_words-words.ensures in
     omega (arith, small)
@@ -40,7 +40,7 @@ overflow_mul-from c =
 pub overflow_add-to : goal.overflow_add-to
 overflow_add-to c =
     let t : List ℕ = c.args.table.now in
-    let accepted : row_outcome t c.args.samples.now c.args.start c.args.driven c.args.scratch.now ≡ Accepted = sym c.fill.ensures.0 ∙ c.in-Accepted.is in
+    let accepted : row_outcome t c.args.samples.now c.args.start c.args.driven c.args.scratch.now ≡ Accepted = sym c.fill.ensures.value ∙ c.in-Accepted.is in
     let fillable : Fillable (body t) c.args.samples.now c.args.start c.args.scratch.now = accepted-fillable _ _ _ _ _ accepted in
     let small : (length (t) - 2) * c.row_words-words.result + c.row_words-words.result ≤ 1048576 = last_small _ _ _ _ _ _ (fillable) (words_before (t)) c.row_words-words.ensures in
     omega (arith, small)
@@ -48,7 +48,7 @@ overflow_add-to c =
 pub offset_bounds-scratch-from : goal.offset_bounds-scratch-from
 offset_bounds-scratch-from c =
     let t : List ℕ = c.args.table.now in
-    let accepted : row_outcome t c.args.samples.now c.args.start c.args.driven c.args.scratch.now ≡ Accepted = sym c.fill.ensures.0 ∙ c.in-Accepted.is in
+    let accepted : row_outcome t c.args.samples.now c.args.start c.args.driven c.args.scratch.now ≡ Accepted = sym c.fill.ensures.value ∙ c.in-Accepted.is in
     let fillable : Fillable (body t) c.args.samples.now c.args.start c.args.scratch.now = accepted-fillable _ _ _ _ _ accepted in
     let small : (length (t) - 2) * c.row_words-words.result + c.row_words-words.result ≤ 1048576 = last_small _ _ _ _ _ _ (fillable) (words_before (t)) c.row_words-words.ensures in
     omega (arith, small)
@@ -56,25 +56,33 @@ offset_bounds-scratch-from c =
 pub slice_bounds-scratch-end-in-Accepted : goal.slice_bounds-scratch-end-in-Accepted
 slice_bounds-scratch-end-in-Accepted c =
     let t : List ℕ = c.args.table.now in
-    let accepted : row_outcome t c.args.samples.now c.args.start c.args.driven c.args.scratch.now ≡ Accepted = sym c.fill.ensures.0 ∙ c.in-Accepted.is in
+    let accepted : row_outcome t c.args.samples.now c.args.start c.args.driven c.args.scratch.now ≡ Accepted = sym c.fill.ensures.value ∙ c.in-Accepted.is in
     let fillable : Fillable (body t) c.args.samples.now c.args.start c.args.scratch.now = accepted-fillable _ _ _ _ _ accepted in
-    let still-fillable : Fillable (body t) c.args.samples.now c.args.start c.fill.new.1.1.1.1.0 = fillable-length _ _ c.fill.auto.1.1.1.1.0 fillable in
+    let still-fillable : Fillable (body t) c.args.samples.now c.args.start c.fill.new.scratch = fillable-length _ _ c.fill.auto.scratch fillable in
     last_end _ _ _ _ _ _ (still-fillable) (words_before (t)) c.row_words-words.ensures
 
 pub returns-in-Refused : goal.returns-in-Refused
 returns-in-Refused c =
-    let told = sym c.fill.ensures.0 ∙ c.in-Refused.is in
+    let told = sym c.fill.ensures.value ∙ c.in-Refused.is in
     let report = c.report_of-report.ensures ∙ ap outcome_report (sym told) in
-    (refused_part _ _ _ _ told, (refused_at _ _ _ told, (ap (λ (r : Report). r.0) report, ap (λ (r : Report). r.1) report)))
+    record {
+      result_value = refused_part _ _ _ _ told;
+      ref_ptr_value = refused_at _ _ _ told;
+      number_after = ap (λ (r : Report). r.0) report;
+      place_after = ap (λ (r : Report). r.1) report;
+    }
 
 pub returns-in-Accepted : goal.returns-in-Accepted
 returns-in-Accepted c =
     let t : List ℕ = c.args.table.now in
-    let accepted : row_outcome t c.args.samples.now c.args.start c.args.driven c.args.scratch.now ≡ Accepted = sym c.fill.ensures.0 ∙ c.in-Accepted.is in
+    let accepted : row_outcome t c.args.samples.now c.args.start c.args.driven c.args.scratch.now ≡ Accepted = sym c.fill.ensures.value ∙ c.in-Accepted.is in
     let fillable : Fillable (body t) c.args.samples.now c.args.start c.args.scratch.now = accepted-fillable _ _ _ _ _ accepted in
-    let still-fillable : Fillable (body t) c.args.samples.now c.args.start c.fill.new.1.1.1.1.0 = fillable-length _ _ c.fill.auto.1.1.1.1.0 fillable in
+    let still-fillable : Fillable (body t) c.args.samples.now c.args.start c.fill.new.scratch = fillable-length _ _ c.fill.auto.scratch fillable in
     let told = accepted in
-    let rows = c.fill.ensures.1 ∙ sym (accepted-scratch _ _ _ _ _ c.in-Accepted.is) in (
-      last_row_lem _ _ _ _ _ _ (still-fillable) (words_before (t)) c.row_words-words.ensures _ (accepted-facts _ _ _ _ _ told).few_driven _ rows ∙ accepted_part _ _ _ _ told,
-      (accepted_at _ _ _ told c.row_words-words.ensures, (ap outcome_number (sym told), ap outcome_place (sym told))),
-    )
+    let rows = c.fill.ensures.scratch_after ∙ sym (accepted-scratch _ _ _ _ _ c.in-Accepted.is) in
+    record {
+      result_value = last_row_lem _ _ _ _ _ _ still-fillable (words_before t) c.row_words-words.ensures _ (accepted-facts _ _ _ _ _ told).few_driven _ rows ∙ accepted_part _ _ _ _ told;
+      ref_ptr_value = accepted_at _ _ _ told c.row_words-words.ensures;
+      number_after = ap outcome_number (sym told);
+      place_after = ap outcome_place (sym told);
+    }
