@@ -1,4 +1,8 @@
 // What a call answered: the number and the place, then its other numbers, and a sum over the whole slice that it wrote.
+ghost use Rattle.std.specs.Prelude.{OnOk, ◌++◌};
+ghost use Rattle.std.specs.Io.KnownBytes.{Appends};
+ghost use Rattle.case_output.specs.Fields.{answer, field, flag};
+
 use crate::{show, sum};
 use std::io;
 use std::io::Write;
@@ -35,7 +39,9 @@ pub fn form<W: Write>(
     place: usize,
     words: usize,
     own: bool,
-) -> io::Result<()> {
+) -> io::Result<()>
+    ensures { OnOk result (Appends (W.contents out.old) (W.contents out.new) (answer number place ++ field words ++ flag own)) }
+{
     show::answer(out, number, place)?;
     show::number(out, words)?;
     show::flag(out, own)
@@ -49,7 +55,9 @@ pub fn judgement<W: Write>(
     holds: bool,
     moments: usize,
     failing: usize,
-) -> io::Result<()> {
+) -> io::Result<()>
+    ensures { OnOk result (Appends (W.contents out.old) (W.contents out.new) (answer number place ++ flag holds ++ field moments ++ field failing)) }
+{
     show::answer(out, number, place)?;
     show::flag(out, holds)?;
     show::number(out, moments)?;
@@ -63,7 +71,9 @@ pub fn comparison<W: Write>(
     place: usize,
     same: bool,
     moment: usize,
-) -> io::Result<()> {
+) -> io::Result<()>
+    ensures { OnOk result (Appends (W.contents out.old) (W.contents out.new) (answer number place ++ flag same ++ field moment)) }
+{
     show::answer(out, number, place)?;
     show::flag(out, same)?;
     show::number(out, moment)

@@ -1,6 +1,7 @@
 // A line of numbers in decimal, a space before each but the first.
-ghost use Rattle.std.specs.Prelude.{OnOk, ◌++◌, codes, decimal};
+ghost use Rattle.std.specs.Prelude.{OnOk, codes, decimal};
 ghost use Rattle.std.specs.Io.KnownBytes.{Appends};
+ghost use Rattle.case_output.specs.Fields.{answer, field, flag};
 
 use std::io;
 use std::io::Write;
@@ -12,18 +13,22 @@ pub fn first<W: Write>(out: &mut W, n: u32) -> io::Result<()>
 }
 
 pub fn number<W: Write>(out: &mut W, n: usize) -> io::Result<()>
-    ensures { OnOk result (Appends (W.contents out.old) (W.contents out.new) (codes " " ++ decimal n)) }
+    ensures { OnOk result (Appends (W.contents out.old) (W.contents out.new) (field n)) }
 {
     write!(out, " {n}")
 }
 
 // 1 if it is so, else 0.
-pub fn flag<W: Write>(out: &mut W, so: bool) -> io::Result<()> {
+pub fn flag<W: Write>(out: &mut W, so: bool) -> io::Result<()>
+    ensures { OnOk result (Appends (W.contents out.old) (W.contents out.new) (flag so)) }
+{
     if so { number(out, 1) } else { number(out, 0) }
 }
 
 // A refusal's number and place.
-pub fn answer<W: Write>(out: &mut W, refusal: u32, place: usize) -> io::Result<()> {
+pub fn answer<W: Write>(out: &mut W, refusal: u32, place: usize) -> io::Result<()>
+    ensures { OnOk result (Appends (W.contents out.old) (W.contents out.new) (answer refusal place)) }
+{
     number(out, refusal as usize)?;
     number(out, place)
 }

@@ -4,4 +4,4 @@ use Rattle.automaton_calls.proofs.moves.Goals as goal
 pub returns : goal.returns
 returns c =
     let e = c.moves.ensures in
-    (rw e.0 at c.table_reply.ensures, e.1)
+    (rw e.value at c.table_reply.ensures, e.res_after)

@@ -12,13 +12,13 @@ use Rattle.part_sums.proofs.Parts.{joinable_again}
 use Rattle.choices.proofs.all.Goals as goal
 
 pub overflow_shl-limit : goal.overflow_shl-limit
-overflow_shl-limit c = c.requires.1.1
+overflow_shl-limit c = c.requires.by_index.1
 
 pub loop-ones-init : goal.loop-ones-init
 loop-ones-init c =
-    let q = c.requires.0 in
+    let q = c.requires.joinable in
     let k = c.args.bits in
-    let limit = shifted k c.requires.1.1 in
+    let limit = shifted k c.requires.by_index.1 in
     (counted_start k limit, refl, refl, refl, refl, refl, refl, q.ready.fillable.laid, none_grown c.args.table.now k limit q.numbered)
 
 pub overflow_sub-choice : goal.overflow_sub-choice
@@ -28,7 +28,7 @@ pub with_part-sum-requires : goal.with_part-sum-requires
 with_part-sum-requires c =
     let inv = c.loop-ones.invariant in
     let q = c.requires in
-    (joinable_again q.0 inv.1 inv.2 inv.3 inv.4 inv.7 inv.8.numbered, (q.1.0 _ (choice-inside inv.0 (shifted c.args.bits q.1.1)), inv.8.small))
+    (joinable_again q.joinable inv.1 inv.2 inv.3 inv.4 inv.7 inv.8.numbered, (q.by_index.0 _ (choice-inside inv.0 (shifted c.args.bits q.by_index.1)), inv.8.small))
 
 pub overflow_add-ones : goal.overflow_add-ones
 overflow_add-ones c = let l =

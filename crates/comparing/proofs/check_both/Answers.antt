@@ -1,6 +1,5 @@
 -- The first recording's checks, and where they pass those of the second.
 use mathlib.Core.Path.{sym, ◌∙◌}
-use borrow.Author.Rules.{rules}
 use Rattle.refusals.proofs.First.{first_append-accepted, first_append-refused}
 use Rattle.judge_conditions.specs.Checks.{recording_checks}
 use Rattle.agreement.specs.Comparing.{comparison_checks}

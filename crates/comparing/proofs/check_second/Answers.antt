@@ -1,6 +1,5 @@
 -- The recording's checks, and where they pass that of the two counts.
 use mathlib.Core.Path.{sym, ◌∙◌}
-use borrow.Author.Rules.{rules}
 use borrow.Author.Tests.{eq-eqb, ne_eqb}
 use Rattle.refusals.proofs.First.{first_append-accepted, first_append-refused}
 use Rattle.judge_conditions.specs.Checks.{recording_checks}

@@ -1,12 +1,8 @@
-use borrow.Author.Rules.{rules}
 use Prim.Native.Nat.{◌≤◌, ◌-◌, ◌/◌, min}
-use mathlib.Core.Path.{◌≡◌, refl}
-use mathlib.Core.Logic.{⊎_elim}
+use mathlib.Core.Path.{◌≡◌}
 use mathlib.Core.List.{◌++◌}
-use native.Mathlib.Omega.{arith}
-use lib.ListN.{length, drop, length-set}
+use lib.ListN.{length, drop}
 use Rattle.decoding.specs.Words.{decoded}
-use Rattle.decoding.proofs.Words.{word_more}
 use Rattle.decoding.proofs.decode.Given as goal
 
 abbrev pub invariant-loop-i : goal.invariant-loop-i

@@ -1,5 +1,4 @@
 use native.Mathlib.Omega.{arith}
-use borrow.Author.Rules.{rules}
 use Rattle.decoding.proofs.joined.Goals as goal
 
 pub returns : goal.returns

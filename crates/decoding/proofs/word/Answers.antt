@@ -1,5 +1,3 @@
-use borrow.Author.Rules.{rules}
-use native.Mathlib.Omega.{arith}
 use Rattle.decoding.specs.Words.{word_at}
 use Rattle.decoding.proofs.word.Goals as goal
 

@@ -1,8 +1,6 @@
-use Prim.Native.Nat.{◌-◌, ◌≤◌}
 use native.Mathlib.Omega.{arith}
 use mathlib.Core.Path.{◌≡◌, refl, ◌∙◌}
 use lib.ListN.{length}
-use Rattle.dialect_slots.specs.Filling.{Filled}
 use Rattle.dialect_slots.proofs.Forms.{none_filled, next_word}
 use Rattle.dialect_draft.proofs.fill.Goals as goal
 
@@ -17,7 +15,7 @@ convert_word-requires c =
 pub loop-j-preserved : goal.loop-j-preserved
 loop-j-preserved c =
     let inv = c.loop-j.invariant in
-    (omega arith, c.convert_word.auto.1.0 ∙ inv.1, c.convert_word.ensures)
+    (omega arith, c.convert_word.auto.draft ∙ inv.1, c.convert_word.ensures)
 
 pub returns : goal.returns
 returns c =

@@ -1,10 +1,8 @@
 -- The invariant: the conversions of the first j words stand.
 use Prim.Native.Nat.{◌-◌, ◌≤◌}
-use native.Mathlib.Omega.{arith}
-use mathlib.Core.Path.{◌≡◌, refl, ◌∙◌}
+use mathlib.Core.Path.{◌≡◌}
 use lib.ListN.{length}
 use Rattle.dialect_slots.specs.Filling.{Filled}
-use Rattle.dialect_slots.proofs.Forms.{none_filled, next_word}
 use Rattle.dialect_draft.proofs.fill.Given as goal
 
 abbrev pub invariant-loop-j : goal.invariant-loop-j

@@ -1,71 +1,28 @@
--- Each arm's law is one of Forms.
+-- Each arm's law is one of Forms; the last arm is that of the operators which the conversion keeps.
 use native.Mathlib.Omega.{arith}
 use mathlib.Core.Path.{◌∙◌}
-use mathlib.Core.Logic.{⊎_elim}
-use borrow.Author.Rules.{rules}
 use Rattle.dialect_slots.proofs.Shapes.{IsKept}
 use Rattle.dialect_slots.proofs.Forms.{plain_at, Ready, leaf-ready, next_ready, weak-ready, strong-ready, kept_ready}
 use Rattle.dialect_slots.proofs.convert_word.Goals as goal
-
-pub bounds-draft-own : goal.bounds-draft-own
-bounds-draft-own c =
-    let ready : Ready c.args.table.now c.args.draft.now c.match-kind.draft c.args.j c.match-kind.s = let q = c.requires in
-    let word = c.read-w.ensures in
-    ⊎_elim (λ w. next_ready q word w.0.keys1 w.2 (w.3 ∙ w.1.ensures))
-    (⊎_elim (λ w. weak-ready q word w.0.keys2 w.1.ensures w.3 (w.4 ∙ w.2.ensures))
-    (⊎_elim (λ w. strong-ready q word w.0.keys3 w.1.ensures w.3 (w.4 ∙ w.2.ensures))
-    (⊎_elim (λ w. leaf-ready q word (omega (arith, w.2.taken)) w.4 (w.5 ∙ w.3.ensures))
-    (λ w.
-    let rest = w.0.rest in
-    let kept : IsKept c.read-w.result.kind = record {
-      above = ⊎_elim (λ v. omega (arith, word.positive)) (λ v. v.1.left) w.1.came;
-      plain = plain_at q word;
-      no_next = rest.0.0.1;
-      no_weak = rest.0.1;
-      no_strong = rest.1;
-    } in
-    kept_ready q word kept w.3 (w.4 ∙ w.2.ensures)))))
-    c.match-kind.branch in
-    search (rules, (ready).long)
-
-pub shape_of-draft : goal.shape_of-draft
-shape_of-draft c =
-    let ready : Ready c.args.table.now c.args.draft.now c.match-kind.draft c.args.j c.match-kind.s = let q = c.requires in
-    let word = c.read-w.ensures in
-    ⊎_elim (λ w. next_ready q word w.0.keys1 w.2 (w.3 ∙ w.1.ensures))
-    (⊎_elim (λ w. weak-ready q word w.0.keys2 w.1.ensures w.3 (w.4 ∙ w.2.ensures))
-    (⊎_elim (λ w. strong-ready q word w.0.keys3 w.1.ensures w.3 (w.4 ∙ w.2.ensures))
-    (⊎_elim (λ w. leaf-ready q word (omega (arith, w.2.taken)) w.4 (w.5 ∙ w.3.ensures))
-    (λ w.
-    let rest = w.0.rest in
-    let kept : IsKept c.read-w.result.kind = record {
-      above = ⊎_elim (λ v. omega (arith, word.positive)) (λ v. v.1.left) w.1.came;
-      plain = plain_at q word;
-      no_next = rest.0.0.1;
-      no_weak = rest.0.1;
-      no_strong = rest.1;
-    } in
-    kept_ready q word kept w.3 (w.4 ∙ w.2.ensures)))))
-    c.match-kind.branch in
-    search (rules, (ready).long)
+use Rattle.dialect_slots.proofs.convert_word.Goals.{in-7, in-9, in-11, in-1-to-4, in_default+in_default, in_default-via-then-kind-lt1, in_default-via-else-kind-lt1+else-kind-lt5}
 
 pub returns : goal.returns
 returns c =
-    let ready : Ready c.args.table.now c.args.draft.now c.match-kind.draft c.args.j c.match-kind.s = let q = c.requires in
+    let q = c.requires in
     let word = c.read-w.ensures in
-    ⊎_elim (λ w. next_ready q word w.0.keys1 w.2 (w.3 ∙ w.1.ensures))
-    (⊎_elim (λ w. weak-ready q word w.0.keys2 w.1.ensures w.3 (w.4 ∙ w.2.ensures))
-    (⊎_elim (λ w. strong-ready q word w.0.keys3 w.1.ensures w.3 (w.4 ∙ w.2.ensures))
-    (⊎_elim (λ w. leaf-ready q word (omega (arith, w.2.taken)) w.4 (w.5 ∙ w.3.ensures))
-    (λ w.
-    let rest = w.0.rest in
-    let kept : IsKept c.read-w.result.kind = record {
-      above = ⊎_elim (λ v. omega (arith, word.positive)) (λ v. v.1.left) w.1.came;
-      plain = plain_at q word;
-      no_next = rest.0.0.1;
-      no_weak = rest.0.1;
-      no_strong = rest.1;
-    } in
-    kept_ready q word kept w.3 (w.4 ∙ w.2.ensures)))))
-    c.match-kind.branch in
-    (ready).filled
+    let ready : Ready c.args.table.now c.args.draft.now c.match-kind.draft c.args.j c.match-kind.s = elim c.match-kind.branch [
+      | in-7 w ↦ next_ready q word w.in-7.is w.draft-is (w.s-is ∙ w.pack-s.ensures)
+      | in-9 w ↦ weak-ready q word w.in-9.is w.pack.ensures w.draft-is (w.s-is ∙ w.pack-s-in-9.ensures)
+      | in-11 w ↦ strong-ready q word w.in-11.is w.pack-in-11.ensures w.draft-is (w.s-is ∙ w.pack-s-in-11.ensures)
+      | in-1-to-4 w ↦ leaf-ready q word (omega arith) w.draft-is (w.s-is ∙ w.pack-s-in-1-to-4.ensures)
+      | in_default+in_default w ↦
+          let kept : IsKept c.read-w.result.kind = record {
+            above = elim w.in_default.branch [ in_default-via-then-kind-lt1 v ↦ omega (arith, word.positive) | in_default-via-else-kind-lt1+else-kind-lt5 v ↦ omega arith ];
+            plain = plain_at q word;
+            no_next = λ e. omega arith;
+            no_weak = λ e. omega arith;
+            no_strong = λ e. omega arith;
+          } in
+          kept_ready q word kept w.draft-is (w.s-is ∙ w.pack-s-in_default.ensures)
+    ] in
+    ready.filled

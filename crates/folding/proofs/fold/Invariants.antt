@@ -1,15 +1,10 @@
 -- The slots so far are folded.
-use Prim.Native.Nat.{◌-◌, ◌≤◌}
-use native.Mathlib.Omega.{arith}
-use mathlib.Core.Path.{◌≡◌, refl, ◌∙◌}
-use lib.ListN.{length, length-set}
-use borrow.Author.Rules.{rules}
+use Rattle.std.proofs.Common.{◌-◌, ◌≤◌}
 use Rattle.folding.specs.Folded.{Folded}
-use Rattle.folding.proofs.Folds.{folded_none, folded_next}
 use Rattle.folding.proofs.fold.Given as goal
 
 abbrev pub invariant-loop-i : goal.invariant-loop-i
-invariant-loop-i l = (l.i ≤ l.count) × (length l.folded ≡ length l.initial.folded) × Folded l.draft l.folded l.i
+invariant-loop-i l = record { within : l.i ≤ l.count; folded : Folded l.draft l.folded l.i }
 
 abbrev pub decreases-loop-i : goal.decreases-loop-i
 decreases-loop-i l = l.count - l.i

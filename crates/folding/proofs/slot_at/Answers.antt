@@ -1,6 +1,5 @@
 use mathlib.Core.Path.{sym}
 use lib.ListN.{get_or-eq_default}
-use borrow.Author.Rules.{rules}
 use Rattle.folding.proofs.slot_at.Goals as goal
 
 pub returns-else-i-folded : goal.returns-else-i-folded

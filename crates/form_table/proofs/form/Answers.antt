@@ -13,12 +13,12 @@ any-requires c =
 pub returns-then-any : goal.returns-then-any
 returns-then-any c =
     let at-start = c in
-    placed-true at-start.args.table.now (form-true at-start.args.table.now at-start.pre.bits_are (c.any.ensures.0.some c.if-any.true)) c.pack.ensures c.put.ensures
+    placed-true at-start.args.table.now (form-true at-start.args.table.now at-start.pre.bits_are (c.any.ensures.looked.some c.if-any.true)) c.pack.ensures c.put.ensures
 
 pub all-sum-requires : goal.all-sum-requires
 all-sum-requires c =
     let f = c in
-    (joinable_first f.pre f.fill-words.kept.1.0 f.fill-words.ensures c.any.auto.1.1.1.0 c.any.auto.1.1.1.1.0 c.any.ensures.1, (c.any.ensures.0.none c.if-any.false, f.pre.few))
+    (joinable_first f.pre f.fill-words.kept.1.0 f.fill-words.ensures c.any.auto.1.1.1.0 c.any.auto.1.1.1.1.0 c.any.ensures.laid, (c.any.ensures.looked.none c.if-any.false, f.pre.few))
 
 pub close-requires : goal.close-requires
 close-requires c =

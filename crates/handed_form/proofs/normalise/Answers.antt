@@ -10,17 +10,17 @@ use Rattle.handed_form.proofs.normalise.Goals as goal
 pub slice_bounds-source-end : goal.slice_bounds-source-end
 slice_bounds-source-end c =
     let a = c.args in
-    source_within a.limits a.source.now a.res.now (sym c.form.ensures.0 ∙ c.in-Source.is)
+    source_within a.limits a.source.now a.res.now (sym c.form.ensures.value ∙ c.in-Source.is)
 
 pub slice_bounds-res-end-in-Made : goal.slice_bounds-res-end-in-Made
 slice_bounds-res-end-in-Made c =
     let a = c.args in
-    made_within a.limits a.source.now a.res.now (sym c.form.ensures.0 ∙ c.in-Made.is) c.form.new.1.1.0 c.form.auto.1.1.0
+    made_within a.limits a.source.now a.res.now (sym c.form.ensures.value ∙ c.in-Made.is) c.form.new.1.1.0 c.form.auto.1.1.0
 
 pub returns-in-Refused : goal.returns-in-Refused
 returns-in-Refused c =
     let a = c.args in
-    let told = sym c.form.ensures.0 ∙ c.in-Refused.is in
+    let told = sym c.form.ensures.value ∙ c.in-Refused.is in
     let report = c.report_of-report.ensures ∙ ap form_report (sym told) in (
       refused-handed a.limits a.source.now a.res.now told,
       (front_at _ _ _ told refl, (ap (λ (r : Report). r.0) report, ap (λ (r : Report). r.1) report)),
@@ -29,7 +29,7 @@ returns-in-Refused c =
 pub returns-in-Source : goal.returns-in-Source
 returns-in-Source c =
     let a = c.args in
-    let told = sym c.form.ensures.0 ∙ c.in-Source.is in (
+    let told = sym c.form.ensures.value ∙ c.in-Source.is in (
       source-handed a.limits a.source.now a.res.now told,
       (front_at _ _ _ told refl, (ap (λ (f : Form). (form_report f).0) (sym told), ap (λ (f : Form). (form_report f).1) (sym told))),
     )
@@ -37,7 +37,7 @@ returns-in-Source c =
 pub returns-in-Made : goal.returns-in-Made
 returns-in-Made c =
     let a = c.args in
-    let told = sym c.form.ensures.0 ∙ c.in-Made.is in (
-      made_handed a.limits a.source.now a.res.now told c.form.ensures.1,
+    let told = sym c.form.ensures.value ∙ c.in-Made.is in (
+      made_handed a.limits a.source.now a.res.now told c.form.ensures.res_after,
       (front_at _ _ _ told refl, (ap (λ (f : Form). (form_report f).0) (sym told), ap (λ (f : Form). (form_report f).1) (sym told))),
     )

@@ -1,12 +1,8 @@
 -- After i turns the first i words are copied.
-use Prim.Native.Nat.{ℕ, ◌-◌, ◌≤◌}
-use native.Mathlib.Omega.{arith}
-use native.Mathlib.Numerals.{add-one}
-use mathlib.Core.Path.{◌≡◌, refl, ap, ◌∙◌}
-use mathlib.Core.List.{List, ◌++◌}
-use lib.ListN.{length, get_or, take, drop, set, length-set}
-use borrow.Author.Rules.{rules}
-use Rattle.logic.proofs.Slices.{copy_more}
+use Prim.Native.Nat.{◌-◌, ◌≤◌}
+use mathlib.Core.Path.{◌≡◌}
+use mathlib.Core.List.{◌++◌}
+use lib.ListN.{length, take, drop}
 use Rattle.headed_copy.proofs.copy.Given as goal
 
 abbrev pub invariant-loop-i : goal.invariant-loop-i

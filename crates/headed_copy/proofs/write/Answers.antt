@@ -1,4 +1,3 @@
-use borrow.Author.Rules.{rules}
 use native.Mathlib.Omega.{arith}
 use mathlib.Core.Path.{refl}
 use Rattle.headed_answers.proofs.Ends.{given_short}
@@ -14,8 +13,8 @@ returns-then-res-n c =
 
 pub finish-requires-2 : goal.finish-requires-2
 finish-requires-2 c =
-    copied-finishable c.requires c.args.res.now (omega (arith, c.if-res-n.false)) c.copy.auto.1.0 c.copy.ensures
+    copied-finishable c.requires c.args.res.now (omega (arith, c.if-res-n.false)) c.copy.auto.to c.copy.ensures
 
 pub returns : goal.returns
 returns c =
-    copied_given c.requires c.args.res.now (omega (arith, c.if-res-n.false)) c.copy.auto.1.0 c.copy.ensures c.finish-2.ensures
+    copied_given c.requires c.args.res.now (omega (arith, c.if-res-n.false)) c.copy.auto.to c.copy.ensures c.finish-2.ensures

@@ -1,5 +1,5 @@
 -- The masked difference is 0 where the samples are alike.
-use Prim.Native.Nat.{ℕ, ◌-◌}
+use Prim.Native.Nat.{ℕ}
 use mathlib.Core.Path.{ap, ◌∙◌}
 use lib.Dec.{eqb}
 use native.Mathlib.Omega.{arith}

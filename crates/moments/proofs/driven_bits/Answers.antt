@@ -1,7 +1,6 @@
 -- As many ones as letters are driven.
 use Prim.Native.Nat.{ℕ, ◌-◌, ◌^◌}
 use mathlib.Core.Path.{sym, ap}
-use borrow.Author.Rules.{rules}
 use Rattle.moments.proofs.driven_bits.Goals as goal
 
 pub returns-then-driven-eq0 : goal.returns-then-driven-eq0

@@ -1,5 +1,4 @@
 -- The next sample, or the one at the loop start.
-use borrow.Author.Rules.{rules}
 use borrow.Author.Tests.{lt-ltb, le-ltb}
 use Rattle.moments.proofs.following.Goals as goal
 

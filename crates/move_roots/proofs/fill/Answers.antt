@@ -8,17 +8,17 @@ use Rattle.move_roots.proofs.fill.Goals as goal
 
 pub returns-then-state-eq0 : goal.returns-then-state-eq0
 returns-then-state-eq0 c =
-    (rw c.if-state-eq0.true (start_drafted _ _ c.args.sample c.requires.0.accepted c.fill.ensures), omega arith)
+    (rw c.if-state-eq0.true (start_drafted _ _ c.args.sample c.requires.drawn.accepted c.fill.ensures), omega arith)
 
 pub root-requires : goal.root-requires
 root-requires c =
-    let named = c.requires.0.named (omega (arith, c.if-state-eq0.false)) in
-    omega (arith, named.inside, (accepted-well-formed true 16383 _ c.requires.0.accepted).few)
+    let named = c.requires.drawn.named (omega (arith, c.if-state-eq0.false)) in
+    omega (arith, named.inside, (accepted-well-formed true 16383 _ c.requires.drawn.accepted).few)
 
 pub returns : goal.returns
 returns c =
     let some : 0 < c.args.state = omega (arith, c.if-state-eq0.false) in
-    let named = c.requires.0.named some in (
+    let named = c.requires.drawn.named some in (
       rw c.root.ensures (move-drafted _ _ _ c.args.state c.args.word c.args.class some named c.fill-2.ensures),
       omega (arith, c.root.ensures, root_within c.args.word c.args.class, named.inside),
     )

@@ -13,15 +13,15 @@ pub overflow_add-root : goal.overflow_add-root
 overflow_add-root c =
     let φ : Formula = normal.part (fixpoints c.args.table.now) (rule c.args.table.now) c.args.choice in
     let filled : List ℕ = c.fill-root.new.1.1.1.0 in
-    omega (arith, narrow c.requires (filled) c.fill-root.auto.1.1.1.0 (φ) c.fill-root.result c.fill-root.ensures.0)
+    omega (arith, narrow c.requires (filled) c.fill-root.auto.1.1.1.0 (φ) c.fill-root.result c.fill-root.ensures.drafted)
 
 pub fold-requires : goal.fold-requires
 fold-requires c =
     let φ : Formula = normal.part (fixpoints c.args.table.now) (rule c.args.table.now) c.args.choice in
     let filled : List ℕ = c.fill-root.new.1.1.1.0 in
-    foldable c.requires (filled) c.fill-root.auto.1.1.1.0 (φ) c.fill-root.result c.fill-root.ensures.0
+    foldable c.requires (filled) c.fill-root.auto.1.1.1.0 (φ) c.fill-root.result c.fill-root.ensures.drafted
 
 pub returns : goal.returns
 returns c =
     let φ : Formula = normal.part (fixpoints c.args.table.now) (rule c.args.table.now) c.args.choice in
-    (c.fold.ensures.slots (φ) c.fill-root.result (omega arith) c.fill-root.ensures.0, c.fill-root.ensures.1)
+    (c.fold.ensures.slots (φ) c.fill-root.result (omega arith) c.fill-root.ensures.drafted, c.fill-root.ensures.laid)

@@ -21,4 +21,4 @@ returns-in-Made c =
     let a = c.args in
     let f = c.plain_form in
     let g = c.form.ensures in
-    claimed_made a.limits a.table.now a.plain.now a.form.now (sym f.ensures.0 ∙ c.in-Made.is) f.ensures.1 g.0 g.1
+    claimed_made a.limits a.table.now a.plain.now a.form.now (sym f.ensures.0 ∙ c.in-Made.is) f.ensures.1 g.value g.res_after

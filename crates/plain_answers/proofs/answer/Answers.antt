@@ -1,4 +1,3 @@
-use borrow.Author.Rules.{rules}
 use Prim.Native.Nat.{◌-◌}
 use mathlib.Core.Path.{refl}
 use native.Mathlib.Omega.{arith}
@@ -16,7 +15,7 @@ finish-requires c = record { within = λ z. absurd (z refl); words = λ z. absur
 
 pub returns-then-res-eq0 : goal.returns-then-res-eq0
 returns-then-res-eq0 c =
-    given_empty _ c.args.res.now c.if-res-eq0.true c.finish.ensures
+    given_empty _ c.args.res.now (omega arith) c.finish.ensures
 
 pub write-n-requires : goal.write-n-requires
 write-n-requires c =
@@ -30,8 +29,8 @@ write-n-requires c =
 
 pub finish-requires-2 : goal.finish-requires-2
 finish-requires-2 c =
-    form-finishable c.requires c.args.res.now c.if-res-eq0.false c.lesser-lent.ensures c.write-n.auto.1.0 c.write-n.ensures
+    form-finishable c.requires c.args.res.now (omega arith) c.lesser-lent.ensures c.write-n.auto.res c.write-n.ensures
 
 pub returns : goal.returns
 returns c =
-    form_given c.requires c.args.res.now c.if-res-eq0.false c.lesser-lent.ensures c.write-n.auto.1.0 c.write-n.ensures c.finish-2.ensures
+    form_given c.requires c.args.res.now (omega arith) c.lesser-lent.ensures c.write-n.auto.res c.write-n.ensures c.finish-2.ensures

@@ -1,3 +1,4 @@
+use Rattle.std.proofs.Common.{arith}
 use Rattle.plain_rooms.proofs.Rooms.{asked-fewer}
 use Rattle.plain_rooms.proofs.write.Goals as goal
 

@@ -3,13 +3,12 @@ use native.Mathlib.Omega.{arith}
 use Prim.Native.Nat.{◌+◌}
 use mathlib.Core.Path.{sym, ◌∙◌}
 use borrow.Author.Rules.{rules}
-use borrow.Author.Tests.{not-true, not-false}
 use Rattle.logic.specs.Bit.{bit}
 use Rattle.state_classes.proofs.Smallest.{level_small, one_digit, read_none, read_count}
 use Rattle.state_classes.proofs.count.Goals as goal
 
 pub returns-then-not-is_proper : goal.returns-then-not-is_proper
-returns-then-not-is_proper c = read_none c.args.kind c.args.byte (sym c.is_proper.ensures ∙ not-true _ c.if-not-is_proper.true)
+returns-then-not-is_proper c = read_none c.args.kind c.args.byte (sym c.is_proper.ensures ∙ c.if-not-is_proper.true)
 
 pub digit-requires : goal.digit-requires
 digit-requires c = omega (arith, level_small c.args.byte)
@@ -29,4 +28,4 @@ overflow_add-result c =
 pub returns : goal.returns
 returns c =
     let a = c.args in
-    read_count a.byte c.level-sigma.ensures c.digit.ensures a.kind (sym c.is_proper.ensures ∙ not-false _ c.if-not-is_proper.false) c.digit-2.ensures
+    read_count a.byte c.level-sigma.ensures c.digit.ensures a.kind (sym c.is_proper.ensures ∙ c.if-not-is_proper.false) c.digit-2.ensures

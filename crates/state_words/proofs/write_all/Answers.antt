@@ -26,19 +26,19 @@ put-made-requires c =
 
 pub overflow_add-made : goal.overflow_add-made
 overflow_add-made c =
-    omega (arith, put-few c.put.ensures, c.loop-test.true, c.before.loop.invariant.few, classed-few (c c).pre)
+    omega (arith, put-few c.put-made.ensures, c.loop-i-test.true, c.loop-i.invariant.few, classed-few c.requires)
 
 pub overflow_add-i-in-loop-i : goal.overflow_add-i-in-loop-i
 overflow_add-i-in-loop-i c =
-    omega (arith, c.loop-test.true)
+    omega (arith, c.loop-i-test.true)
 
 pub loop-i-smaller : goal.loop-i-smaller
 loop-i-smaller c =
-    omega (arith, c.loop-test.true)
+    omega (arith, c.loop-i-test.true)
 
 pub loop-i-preserved : goal.loop-i-preserved
 loop-i-preserved c =
-    stating_more (c c).pre c.before.loop.invariant c.loop-test.true c.before.before.before.kind.ensures c.put.ensures
+    stating_more c.requires c.loop-i.invariant c.loop-i-test.true c.kind.ensures c.put-made.ensures
 
 pub shape_of-res : goal.shape_of-res
 shape_of-res c = c.loop-i.invariant.long

@@ -6,4 +6,4 @@ use Rattle.table_calls.proofs.classify.Goals as goal
 pub returns : goal.returns
 returns c =
     let e = c.classify.ensures in
-    (c.reply.ensures.0 ∙ ap outcome_number e.0, (c.reply.ensures.1 ∙ ap outcome_place e.0, e.1))
+    (c.reply.ensures.value ∙ ap outcome_number e.value, (c.reply.ensures.place_after ∙ ap outcome_place e.value, e.bytes_after))

@@ -9,7 +9,7 @@ by_class-requires c = (simp length-set (omega arith), omega arith)
 
 pub shape_of-draft : goal.shape_of-draft
 shape_of-draft c =
-    c.by_class.auto.0 ∙ simp length-set
+    c.by_class.auto.draft ∙ simp length-set
 
 pub returns : goal.returns
 returns c =

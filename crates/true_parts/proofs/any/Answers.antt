@@ -7,12 +7,12 @@ use Rattle.true_parts.proofs.any.Goals as goal
 
 pub overflow_sub-bits : goal.overflow_sub-bits
 overflow_sub-bits c =
-    rw (shifted c.args.bits c.requires.1.1) (pow_pos c.args.bits)
+    rw (shifted c.args.bits c.requires.bits_value.1) (pow_pos c.args.bits)
 
 pub each-requires : goal.each-requires
 each-requires c =
-    (ready_again c.requires.0 c.opened.auto.1.1.1.0 c.opened.auto.1.1.1.1.0 c.opened.ensures.1, c.requires.1.1)
+    (ready_again c.requires.ready c.opened.auto.1.1.1.0 c.opened.auto.1.1.1.1.0 c.opened.ensures.laid, c.requires.bits_value.1)
 
 pub returns : goal.returns
 returns c =
-    (none_opened c.args.table.now c.args.bits c.requires.1.0 (ap (λ x. x - 1) (shifted c.args.bits c.requires.1.1)) c.opened.ensures.0 c.if-opened.false, c.opened.ensures.1)
+    (none_opened c.args.table.now c.args.bits c.requires.bits_value.0 (ap (λ x. x - 1) (shifted c.args.bits c.requires.bits_value.1)) c.opened.ensures.opened c.if-opened.false, c.opened.ensures.laid)

@@ -34,7 +34,7 @@ shape_of-folded-then-kind-eq-TRUE c = c.part-root.auto.1.1.1.1.0 ∙ (at-loop c)
 
 pub returns-then-kind-eq-TRUE : goal.returns-then-kind-eq-TRUE
 returns-then-kind-eq-TRUE c =
-    (found (t c) (folded c) (at-loop c).loop.choice c.part-root.result c.part-root.ensures.0 (few c) _ (omega (arith, c.loop-choice-test.true, (at-loop c).loop.invariant.0)) (sym c.kind.ensures ∙ c.if-kind-eq-TRUE.true), c.part-root.ensures.1)
+    (found (t c) (folded c) (at-loop c).loop.choice c.part-root.result c.part-root.ensures.drafted (few c) _ (omega (arith, c.loop-choice-test.true, (at-loop c).loop.invariant.0)) (sym c.kind.ensures ∙ c.if-kind-eq-TRUE.true), c.part-root.ensures.laid)
 
 pub overflow_add-choice : goal.overflow_add-choice
 overflow_add-choice c = omega (arith, c.loop-choice-test.true)
@@ -46,8 +46,8 @@ loop-choice-preserved c =
       omega (arith, c.loop-choice-test.true),
       c.part-root.auto.1.1.1.0 ∙ inv.2,
       c.part-root.auto.1.1.1.1.0 ∙ inv.3,
-      c.part-root.ensures.1,
-      untrue_next (t c) (folded c) (at-loop c).loop.choice c.part-root.result c.part-root.ensures.0 (few c) (λ e. c.if-kind-eq-TRUE.false (c.kind.ensures ∙ e)) inv.5,
+      c.part-root.ensures.laid,
+      untrue_next (t c) (folded c) (at-loop c).loop.choice c.part-root.result c.part-root.ensures.drafted (few c) (λ e. c.if-kind-eq-TRUE.false (c.kind.ensures ∙ e)) inv.5,
     )
 
 pub shape_of-draft : goal.shape_of-draft

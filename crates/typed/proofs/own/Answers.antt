@@ -1,5 +1,4 @@
 use Prim.Native.Nat.{◌<◌}
-use native.Mathlib.Omega.{arith}
 use mathlib.Core.Path.{refl}
 use lib.Dec.{ltb, ltb→lt}
 use Rattle.logic.proofs.Tests.{all_pass, pass_at}

@@ -1,12 +1,11 @@
-use Prim.Native.Nat.{ℕ, ◌≤◌, ◌<◌, ◌-◌}
+use Prim.Native.Nat.{ℕ, ◌<◌}
 use mathlib.Core.Path.{◌≡◌, refl, ap, ◌∙◌}
-use mathlib.Core.List.{List, map}
+use mathlib.Core.List.{List}
 use native.Mathlib.Omega.{arith}
 use native.Mathlib.Numerals.{add-one}
 use lib.ListN.{length, get_or, take, length-set}
 use Rattle.logic.specs.Formula.{const}
 use mathlib.Core.Bool.{false}
-use borrow.Author.Rules.{rules}
 use Rattle.table.specs.Table.{formula_of, formulas, rule}
 use Rattle.table.proofs.Formulas.{length-formulas}
 use Rattle.typed.specs.Typed.{typed, counted, earlier}

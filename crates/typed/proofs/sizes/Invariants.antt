@@ -1,17 +1,10 @@
 -- The invariant: the counts so far are those of the words, and the last of them is kept.
-use Prim.Native.Nat.{ℕ, ◌≤◌, ◌<◌, ◌-◌}
-use mathlib.Core.Path.{◌≡◌, refl, ap, ◌∙◌}
-use mathlib.Core.List.{List, map}
-use native.Mathlib.Omega.{arith}
-use native.Mathlib.Numerals.{add-one}
-use lib.ListN.{length, get_or, take, length-set}
-use Rattle.logic.specs.Formula.{const}
-use mathlib.Core.Bool.{false}
-use borrow.Author.Rules.{rules}
-use Rattle.table.specs.Table.{formula_of, formulas, rule}
-use Rattle.table.proofs.Formulas.{length-formulas}
-use Rattle.typed.specs.Typed.{typed, counted, earlier}
-use Rattle.typed.proofs.Counting.{next_counted, more_counted}
+use Prim.Native.Nat.{◌≤◌, ◌-◌}
+use mathlib.Core.Path.{◌≡◌}
+use mathlib.Core.List.{map}
+use lib.ListN.{length, take}
+use Rattle.table.specs.Table.{formula_of, formulas}
+use Rattle.typed.specs.Typed.{counted}
 use Rattle.typed.proofs.sizes.Given as goal
 
 abbrev pub invariant-loop-i : goal.invariant-loop-i

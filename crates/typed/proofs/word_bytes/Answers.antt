@@ -1,6 +1,5 @@
 -- A word's bytes by its sort: each arm of the match in turn.
 use native.Mathlib.Omega.{arith}
-use borrow.Author.Rules.{rules}
 use Rattle.table.proofs.Fields.{kind_lt}
 use Rattle.typed.proofs.Counting.{bytes_by, sorted}
 use Rattle.typed.proofs.word_bytes.Goals as goal
@@ -27,7 +26,6 @@ returns-in-2 c =
 
 pub returns-in_default : goal.returns-in_default
 returns-in_default c =
-    let rest = c.in_default.in_default-own.rest in
     bytes_by _ _ _ _ _ _ _ c.kind-kind.ensures c.sort.ensures c.own-n.ensures.0
-    (rw (sorted c.sort.result c.own-n.result _ _ _ rest.0.0.1 rest.0.1 rest.1)
+    (rw (sorted c.sort.result c.own-n.result _ _ _ (omega arith) (omega arith) (omega arith))
     (omega (arith, c.least-in_default.ensures, c.least-b.ensures, c.least-a.ensures)))

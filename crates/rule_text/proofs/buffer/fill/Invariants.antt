@@ -1,7 +1,5 @@
 use mathlib.Core.Path.{◌≡◌}
-use native.Mathlib.Omega.{arith}
 use lib.ListN.{length}
-use borrow.Author.Rules.{rules}
 use Rattle.rule_text.proofs.buffer.fill.Given as goal
 
 abbrev pub invariant-loop-turns : goal.invariant-loop-turns
