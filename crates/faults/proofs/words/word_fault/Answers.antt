@@ -10,32 +10,35 @@ use Rattle.faults.proofs.First.{word_then_repeated, refused_kept}
 use Rattle.faults.proofs.Marking.{marked_more}
 use Rattle.faults.proofs.words.word_fault.Goals as goal
 
--- the index counts the words before this one
-count : (s : goal.Start) → count_of s.args.index.now ≡ s.args.i
-count s = s.requires.2.indexed.count_at ∙ length-take-le _ _ (omega (arith, s.requires.0))
-
 pub find-requires : goal.find-requires
-find-requires c = rw (count c) (omega (arith, c.requires.0), c.requires.2.indexed)
+find-requires c =
+    -- the index counts the words before this one
+    let count : count_of c.args.index.now ≡ c.args.i = c.requires.2.indexed.count_at ∙ length-take-le _ _ (omega (arith, c.requires.0)) in
+    rw count (omega (arith, c.requires.0), c.requires.2.indexed)
 
 pub returns-then-find-gt0 : goal.returns-then-find-gt0
 returns-then-find-gt0 c =
-    let found = found-occurs (rw (count c) at c.find.ensures) c.if-find-gt0.true in
+    let count : count_of c.args.index.now ≡ c.args.i = c.requires.2.indexed.count_at ∙ length-take-le _ _ (omega (arith, c.requires.0)) in
+    let found = found-occurs (rw count at c.find.ensures) c.if-find-gt0.true in
     record {
       answer = rw (word_then_repeated, ← c.fault.ensures.answer, c.in-Accepted.is, found);
       kept = refused_kept;
     }
 
 pub add-requires : goal.add-requires
-add-requires c = rw (count c) (omega (arith, c.requires.0, c.requires.1.words), c.requires.2.indexed.small)
+add-requires c =
+    let count : count_of c.args.index.now ≡ c.args.i = c.requires.2.indexed.count_at ∙ length-take-le _ _ (omega (arith, c.requires.0)) in
+    rw count (omega (arith, c.requires.0, c.requires.1.words), c.requires.2.indexed.small)
 
 pub returns-in-Refused : goal.returns-in-Refused
 returns-in-Refused c = record { answer = rw (word_then_repeated, ← c.fault.ensures.answer, c.in-Refused.is); kept = refused_kept }
 
 pub returns-else-find-gt0 : goal.returns-else-find-gt0
 returns-else-find-gt0 c =
+    let count : count_of c.args.index.now ≡ c.args.i = c.requires.2.indexed.count_at ∙ length-take-le _ _ (omega (arith, c.requires.0)) in
     let fields = c.fault.ensures in
     let passed = c.in-Accepted.is in
-    let absent = rw (count c) at (c.find.ensures.absent (omega arith)) in
+    let absent = rw count at (c.find.ensures.absent (omega arith)) in
     record {
       answer = rw (word_then_repeated, ← fields.answer, passed, absent);
       kept =

@@ -35,8 +35,8 @@ loop-i-preserved c =
     let read = c.word_fault in (
       omega arith,
       inv.1 ∙ words_step _ _ _ c.loop-i-test.true ∙ rw (← read.ensures.answer, c.in-Accepted.is),
-      read.auto.1.1.1.0 ∙ inv.2,
-      read.auto.1.1.1.1.0 ∙ inv.3,
+      read.auto.index ∙ inv.2,
+      read.auto.marks ∙ inv.3,
       read.ensures.kept c.in-Accepted.is,
     )
 
