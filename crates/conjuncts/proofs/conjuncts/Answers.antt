@@ -6,7 +6,7 @@ use borrow.Author.Rules.{rules}
 use Rattle.conjuncts.proofs.Conjoining.{Joining, joining_none, joining_other, joining_left, joining_room, joining_taken, joining_all}
 use Rattle.fixpoints.proofs.Positions.{kept_small}
 use Rattle.conjuncts.proofs.conjuncts.Goals as goal
-use Rattle.conjuncts.proofs.conjuncts.Goals.{then-chosen, else-chosen, else-is}
+use Rattle.conjuncts.proofs.conjuncts.Goals.{then-is+then-chosen, then-is+else-chosen, else-is}
 
 pub loop-i-init : goal.loop-i-init
 loop-i-init c = joining_none c.requires
@@ -42,8 +42,8 @@ loop-i-preserved c =
     let h = c.loop-i-test.true in
     let g = c.is.ensures in
     elim c.if-is.branch [
-      then-chosen x ↦ rw (x.draft-is, x.next-is) (joining_taken q s h g x.if-is.true x.chosen.ensures x.if-chosen.true x.conjoin-next.ensures)
-    | else-chosen x ↦ rw (x.draft-is, x.next-is) (joining_left q s h g x.if-is.true x.chosen.ensures x.if-chosen.false)
+      then-is+then-chosen x ↦ rw (x.draft-is, x.next-is) (joining_taken q s h g x.if-is.true x.chosen.ensures x.if-chosen.true x.conjoin-next.ensures)
+    | then-is+else-chosen x ↦ rw (x.draft-is, x.next-is) (joining_left q s h g x.if-is.true x.chosen.ensures x.if-chosen.false)
     | else-is x ↦ rw (x.draft-is, x.next-is) (joining_other q s h g x.if-is.false)
     ]
 
