@@ -18,7 +18,7 @@ step_word-requires c =
 pub loop-j-preserved : goal.loop-j-preserved
 loop-j-preserved c =
     let inv = c.loop-j.invariant in
-    (omega arith, c.step_word.auto.1.1.1.1.1.0 ∙ inv.1, c.step_word.ensures)
+    (omega arith, c.step_word.auto.draft ∙ inv.1, c.step_word.ensures)
 
 pub returns : goal.returns
 returns c =

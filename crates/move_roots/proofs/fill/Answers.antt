@@ -8,7 +8,10 @@ use Rattle.move_roots.proofs.fill.Goals as goal
 
 pub returns-then-state-eq0 : goal.returns-then-state-eq0
 returns-then-state-eq0 c =
-    (rw c.if-state-eq0.true (start_drafted _ _ c.args.sample c.requires.drawn.accepted c.fill.ensures), omega arith)
+    record {
+      drafted = rw c.if-state-eq0.true (start_drafted _ _ c.args.sample c.requires.drawn.accepted c.fill.ensures);
+      upper_bound = omega arith;
+    }
 
 pub root-requires : goal.root-requires
 root-requires c =
@@ -18,7 +21,8 @@ root-requires c =
 pub returns : goal.returns
 returns c =
     let some : 0 < c.args.state = omega (arith, c.if-state-eq0.false) in
-    let named = c.requires.drawn.named some in (
-      rw c.root.ensures (move-drafted _ _ _ c.args.state c.args.word c.args.class some named c.fill-2.ensures),
-      omega (arith, c.root.ensures, root_within c.args.word c.args.class, named.inside),
-    )
+    let named = c.requires.drawn.named some in
+    record {
+      drafted = rw c.root.ensures (move-drafted _ _ _ c.args.state c.args.word c.args.class some named c.fill-2.ensures);
+      upper_bound = omega (arith, c.root.ensures, root_within c.args.word c.args.class, named.inside);
+    }
