@@ -2,13 +2,15 @@ use Rattle.logic.specs.Formula.{weak, release}
 use Rattle.transforms.specs.Rewriting.{recurring}
 use native.Mathlib.Omega.{arith}
 use borrow.Author.Rules.{rules}
-use mathlib.Core.Path.{refl, ap, ◌∙◌}
-use mathlib.Core.Logic.{inl, inr, ⊎_elim}
+use Prim.Native.Nat.{◌≤◌, ◌<◌}
+use mathlib.Core.Path.{◌≡◌, refl, ap, ◌∙◌}
+use mathlib.Core.Logic.{◌⊎◌, inl, inr}
 use Rattle.slots.specs.Slot.{pack}
 use Rattle.form_places.specs.declared.Rewriting.TheVariants.{Recurring}
 use Rattle.rewriting.proofs.Opened.{others, no_other}
 use Rattle.chosen_forms.proofs.Rewritten.{of_constant, of_letter, of_next, of_binary, of_recurring_kept}
 use Rattle.chosen_forms.proofs.recurring.Goals as goal
+use Rattle.chosen_forms.proofs.recurring.Goals.{in-8-1, in_default+else-kind-lt1+else-kind-lt3+else-kind-lt5+then-kind-lt7}
 
 pub returns-in-7 : goal.returns-in-7
 returns-in-7 c = of_next Recurring c.kind-kind.ensures c.in-7.is c.next.ensures
@@ -40,5 +42,10 @@ returns-in_default-2 c = let rest = c.in_default.in_default-own.rest in absurd (
 
 pub returns-in-5-to-11 : goal.returns-in-5-to-11
 returns-in-5-to-11 c =
-    let h = others (⊎_elim (λ x. inl x.keys4) (λ x. inr (x.3.left, x.4.taken)) c.in-5-to-11-1.branch) in
+    let at : ((c.kind-kind.result ≡ 8) ⊎ (c.kind-kind.result ≡ 11)) ⊎ ((5 ≤ c.kind-kind.result) × (c.kind-kind.result < 7)) =
+        elim c.in-5-to-11-1.branch [
+          in-8-1 w ↦ inl w.in-8-1.keys4
+        | in_default+else-kind-lt1+else-kind-lt3+else-kind-lt5+then-kind-lt7 w ↦ inr (omega arith, omega arith)
+        ] in
+    let h = others at in
     of_recurring_kept c.kind-kind.ensures h.0 h.1 h.2 c.operator-in-5-to-11.ensures h.3 h.4

@@ -34,4 +34,4 @@ pub returns-in-3-to-4 : goal.returns-in-3-to-4
 returns-in-3-to-4 c = of_letter Steady c.kind-kind.ensures (omega arith) (omega arith) (c.pack-in-3-to-4.ensures ∙ ap (pack _ 0) c.right.ensures)
 
 pub returns-in-5-to-11 : goal.returns-in-5-to-11
-returns-in-5-to-11 c = let rest = c.in_default.in_default-own.rest in of_steady_kept c.kind-kind.ensures (omega arith) (omega arith) rest.0.0.1 c.operator-in-5-to-11.ensures rest.0.1 rest.1
+returns-in-5-to-11 c = let rest = c.in-5-to-11.in_default-own.rest in of_steady_kept c.kind-kind.ensures (omega arith) (omega arith) rest.0.0.1 c.operator-in-5-to-11.ensures rest.0.1 rest.1

@@ -17,7 +17,7 @@ pub returns-in_default : goal.returns-in_default
 returns-in_default c = rw c.in-Least.is (passed_least _ c.kind-kind.ensures (kind_lt _ c.ranges.w.fits) c.in_default.in_default-own.rest.0.1 c.in_default.in_default-own.rest.1)
 
 pub returns-in-9-to-10 : goal.returns-in-9-to-10
-returns-in-9-to-10 c = rw c.in-Greatest.is (picked-greatest _ c.kind-kind.ensures c.if-kind-lt9.false c.if-kind-lt11.true)
+returns-in-9-to-10 c = rw c.in-Greatest.is (picked-greatest _ c.kind-kind.ensures (omega arith) (omega arith))
 
 pub returns-in_default-kind : goal.returns-in_default-kind
 returns-in_default-kind c = rw c.in-Greatest.is (passed_greatest _ c.kind-kind.ensures (kind_lt _ c.ranges.w.fits) (omega arith) (omega arith))

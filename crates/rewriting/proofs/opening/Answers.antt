@@ -1,10 +1,12 @@
+use Prim.Native.Nat.{◌≤◌, ◌<◌}
 use native.Mathlib.Omega.{arith}
 use borrow.Author.Rules.{rules}
-use mathlib.Core.Path.{ap, ◌∙◌}
-use mathlib.Core.Logic.{inl, inr, ⊎_elim}
+use mathlib.Core.Path.{◌≡◌, ap, ◌∙◌}
+use mathlib.Core.Logic.{◌⊎◌, inl, inr}
 use Rattle.slots.specs.Slot.{pack}
 use Rattle.rewriting.proofs.Opened.{others, no_other, opens-constant, opens-letter, opens_next, opens_weak, opens-release, opens_kept}
 use Rattle.rewriting.proofs.opening.Goals as goal
+use Rattle.rewriting.proofs.opening.Goals.{in-8-1, in_default+else-kind-lt1+else-kind-lt3+else-kind-lt5+then-kind-lt7}
 
 pub returns-in-7 : goal.returns-in-7
 returns-in-7 c = opens_next c.kind-kind.ensures c.in-7.is c.next.ensures
@@ -25,4 +27,10 @@ pub returns-in_default-2 : goal.returns-in_default-2
 returns-in_default-2 c = let rest = c.in_default.in_default-own.rest in absurd (no_other (omega arith) (omega arith) rest.0.0.0.1 rest.0.0.1 rest.0.1 rest.1)
 
 pub returns-in-5-to-11 : goal.returns-in-5-to-11
-returns-in-5-to-11 c = opens_kept c.kind-kind.ensures (others (⊎_elim (λ x. inl x.keys4) (λ x. inr (x.3.left, x.4.taken)) c.in-5-to-11-1.branch)) c.operator.ensures
+returns-in-5-to-11 c =
+    let at : ((c.kind-kind.result ≡ 8) ⊎ (c.kind-kind.result ≡ 11)) ⊎ ((5 ≤ c.kind-kind.result) × (c.kind-kind.result < 7)) =
+        elim c.in-5-to-11-1.branch [
+          in-8-1 w ↦ inl w.in-8-1.keys4
+        | in_default+else-kind-lt1+else-kind-lt3+else-kind-lt5+then-kind-lt7 w ↦ inr (omega arith, omega arith)
+        ] in
+    opens_kept c.kind-kind.ensures (others at) c.operator.ensures
