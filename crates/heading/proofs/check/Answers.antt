@@ -27,7 +27,7 @@ returns-then-count-table c =
     let t : List ℕ = c.args.table.now in
     let some : count t ≡ 0 → ⊥ = λ e. c.if-count-eq0.false (c.right-count.ensures ∙ e) in
     let within : count t ≤ c.args.limit = omega (arith, c.right-count.ensures, c.if-limit-count.false) in
-    sym (differing _ _ (t) (some) (within) (λ e. c.if-count-table.true (c.right-count.ensures ∙ e ∙ length-drop 1 (t))))
+    sym (differing _ _ t some within (λ e. c.if-count-table.true (c.right-count.ensures ∙ e ∙ length-drop 1 t)))
 
 pub of-requires : goal.of-requires
 of-requires c =
@@ -38,24 +38,21 @@ returns-then-header-of c =
     let t : List ℕ = c.args.table.now in
     let some : count t ≡ 0 → ⊥ = λ e. c.if-count-eq0.false (c.right-count.ensures ∙ e) in
     let within : count t ≤ c.args.limit = omega (arith, c.right-count.ensures, c.if-limit-count.false) in
-    let same : count (t) ≡ length (body (t)) = sym c.before.before.right.ensures ∙ c.if-count-table.false ∙ sym (length-drop 1 (t)) in
-    let words : {o : Outcome} → c.check.result ≡ o → checked c.args.plain (min c.args.limit 16383) (body (t)) ≡ o = λ e. ap (checked _ _) (sym (whole_body (t))) ∙ sym c.check.ensures ∙ e in
-    sym (header_wrong _ _ (t) (some) (within) (same) (words c.in-Accepted.is) (λ e. c.if-header-of.true (e ∙ ap header_of (sym (whole_body (t))) ∙ sym c.of.ensures)))
+    let same : count t ≡ length (body t) = sym c.right-count.ensures ∙ c.if-count-table.false ∙ sym (length-drop 1 t) in
+    sym (header_wrong _ _ t some within same (ap (checked _ _) (sym (whole_body t)) ∙ sym c.in-Accepted.ensures) (λ e. c.if-header-of.true (e ∙ ap header_of (sym (whole_body t)) ∙ sym c.of.ensures)))
 
 pub returns-in-Refused : goal.returns-in-Refused
 returns-in-Refused c =
     let t : List ℕ = c.args.table.now in
     let some : count t ≡ 0 → ⊥ = λ e. c.if-count-eq0.false (c.right-count.ensures ∙ e) in
     let within : count t ≤ c.args.limit = omega (arith, c.right-count.ensures, c.if-limit-count.false) in
-    let same : count (t) ≡ length (body (t)) = sym c.before.before.right.ensures ∙ c.if-count-table.false ∙ sym (length-drop 1 (t)) in
-    let words : {o : Outcome} → c.check.result ≡ o → checked c.args.plain (min c.args.limit 16383) (body (t)) ≡ o = λ e. ap (checked _ _) (sym (whole_body (t))) ∙ sym c.check.ensures ∙ e in
-    sym (words-refused _ _ (t) (some) (within) (same) (words c.in-Refused.is))
+    let same : count t ≡ length (body t) = sym c.right-count.ensures ∙ c.if-count-table.false ∙ sym (length-drop 1 t) in
+    sym (words-refused _ _ t some within same (ap (checked _ _) (sym (whole_body t)) ∙ sym c.in-Refused.ensures))
 
 pub returns-else-header-of : goal.returns-else-header-of
 returns-else-header-of c =
     let t : List ℕ = c.args.table.now in
     let some : count t ≡ 0 → ⊥ = λ e. c.if-count-eq0.false (c.right-count.ensures ∙ e) in
     let within : count t ≤ c.args.limit = omega (arith, c.right-count.ensures, c.if-limit-count.false) in
-    let same : count (t) ≡ length (body (t)) = sym c.before.before.right.ensures ∙ c.if-count-table.false ∙ sym (length-drop 1 (t)) in
-    let words : {o : Outcome} → c.check.result ≡ o → checked c.args.plain (min c.args.limit 16383) (body (t)) ≡ o = λ e. ap (checked _ _) (sym (whole_body (t))) ∙ sym c.check.ensures ∙ e in
-    sym (header_right _ _ (t) (some) (within) (same) (words c.in-Accepted.is) (c.if-header-of.false ∙ c.of.ensures ∙ ap header_of (whole_body (t))))
+    let same : count t ≡ length (body t) = sym c.right-count.ensures ∙ c.if-count-table.false ∙ sym (length-drop 1 t) in
+    sym (header_right _ _ t some within same (ap (checked _ _) (sym (whole_body t)) ∙ sym c.in-Accepted.ensures) (c.if-header-of.false ∙ c.of.ensures ∙ ap header_of (whole_body t)))
