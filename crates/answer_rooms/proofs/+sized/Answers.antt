@@ -4,13 +4,13 @@ use borrow.Author.Rules.{rules}
 use Rattle.answer_rooms.proofs.+sized.Goals as goal
 
 pub sized-requires : goal.sized-requires
-sized-requires c = (omega (arith, c.requires.0), c.requires.1)
+sized-requires t c = (omega (arith, c.decreases), c.requires)
 
 pub of_64-requires : goal.of_64-requires
-of_64-requires c = (c.requires.1, omega arith)
+of_64-requires t c = (c.requires, omega arith)
 
 pub of_512-requires : goal.of_512-requires
-of_512-requires c = (c.requires.1, omega arith)
+of_512-requires t c = (c.requires, omega arith)
 
 pub of_16383-requires : goal.of_16383-requires
-of_16383-requires c = c.requires.1
+of_16383-requires t c = c.requires

@@ -1,13 +1,8 @@
-use Prim.Native.Nat.{◌-◌, ◌≤◌}
-use mathlib.Core.Path.{◌≡◌, refl, sym, ◌∙◌}
-use mathlib.Core.List.{[]}
+use mathlib.Core.Path.{refl, sym, ◌∙◌}
 use native.Mathlib.Omega.{arith}
-use lib.ListN.{length, take, drop, drop_of_length-le}
+use lib.ListN.{drop_of_length-le}
 use lib.Seq.{take_all}
-use borrow.Author.Rules.{rules}
-use Rattle.refusals.specs.Refusals.{first}
 use Rattle.table.specs.Checks.{words_checks}
-use Rattle.faults.specs.Marks.{Kept}
 use Rattle.faults.proofs.First.{words_step, refused_kept}
 use Rattle.faults.proofs.Marking.{room_kept}
 use Rattle.faults.proofs.words.words_fault.Goals as goal
