@@ -31,11 +31,11 @@ pub returns-in-Refused : goal.returns-in-Refused
 returns-in-Refused c =
     let a = c.args in
     let r = table-refused a.state a.sample a.driven a.table.now a.res.now c.in-Refused.r (sym c.in-Refused.ensures) in
-    (r.reply, r.slice)
+    record { value = r.reply; res_after = r.slice }
 
 pub returns-in-Accepted : goal.returns-in-Accepted
 returns-in-Accepted c =
     let accepted : first (watched_checks c.args.table.now) ≡ Accepted = sym c.in-Accepted.ensures in
     let a = c.args in
     let r = answered-ends a.state a.sample a.driven a.table.now a.res.now (accepted) c.sized.ensures in
-    (r.reply, r.slice)
+    record { value = r.reply; res_after = r.slice }

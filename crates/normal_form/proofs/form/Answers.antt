@@ -21,7 +21,7 @@ pub returns-then-not-permitted : goal.returns-then-not-permitted
 returns-then-not-permitted c =
     let a = c.args in
     let r = outside a.limits a.table.now a.res.now (limits_outside a.limits _ c.permitted.ensures c.if-not-permitted.true) in
-    (r.reply, r.slice)
+    record { value = r.reply; res_after = r.slice }
 
 pub overflow_mul-limits : goal.overflow_mul-limits
 overflow_mul-limits c =
@@ -57,7 +57,7 @@ returns-then-is_normal c =
     let told = c in
     let b = c in
     let q = own (l) (t) (result) (within) (accepted) (sym (normal) ∙ c.if-is_normal.true) in
-    (q.reply, q.slice)
+    record { value = q.reply; res_after = q.slice }
 
 pub slice_bounds-rewrite-count : goal.slice_bounds-rewrite-count
 slice_bounds-rewrite-count c =
@@ -97,7 +97,7 @@ returns-in-Refused c =
     let result : List ℕ = c.args.res.now in
     let within : is_permitted l ≡ true = limits_within l _ c.permitted.ensures c.if-not-permitted.false in
     let q = table-refused (l) (t) (result) (within) _ (sym c.in-Refused.ensures) in
-    (q.reply, q.slice)
+    record { value = q.reply; res_after = q.slice }
 
 pub returns-else-is_normal : goal.returns-else-is_normal
 returns-else-is_normal c =
@@ -105,4 +105,4 @@ returns-else-is_normal c =
     let t : List ℕ = c.args.table.now in
     let accepted : headed_checked true (plain_limit (l)) (t) ≡ Accepted = sym c.in-Accepted.ensures in
     let q = rewritten (l) (t) (accepted) (rw (whole_body (t)) at c.rewrite.ensures) in
-    (q.reply, q.slice)
+    record { value = q.reply; res_after = q.slice }

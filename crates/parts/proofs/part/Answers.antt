@@ -24,4 +24,4 @@ fold-requires c =
 pub returns : goal.returns
 returns c =
     let φ : Formula = normal.part (fixpoints c.args.table.now) (rule c.args.table.now) c.args.choice in
-    (c.fold.ensures.slots (φ) c.fill-root.result (omega arith) c.fill-root.ensures.drafted, c.fill-root.ensures.laid)
+    record { drafted = c.fold.ensures.slots (φ) c.fill-root.result (omega arith) c.fill-root.ensures.drafted; laid = c.fill-root.ensures.laid }

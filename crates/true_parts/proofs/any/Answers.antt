@@ -15,4 +15,4 @@ each-requires c =
 
 pub returns : goal.returns
 returns c =
-    (none_opened c.args.table.now c.args.bits c.requires.bits_value.0 (ap (λ x. x - 1) (shifted c.args.bits c.requires.bits_value.1)) c.opened.ensures.opened c.if-opened.false, c.opened.ensures.laid)
+    record { looked = none_opened c.args.table.now c.args.bits c.requires.bits_value.0 (ap (λ x. x - 1) (shifted c.args.bits c.requires.bits_value.1)) c.opened.ensures.opened c.if-opened.false; laid = c.opened.ensures.laid }

@@ -34,7 +34,7 @@ shape_of-folded-then-kind-eq-TRUE c = c.part-root.auto.folded ∙ (at-loop c).lo
 
 pub returns-then-kind-eq-TRUE : goal.returns-then-kind-eq-TRUE
 returns-then-kind-eq-TRUE c =
-    (found (t c) (folded c) (at-loop c).loop.choice c.part-root.result c.part-root.ensures.drafted (few c) _ (omega (arith, c.loop-choice-test.true, (at-loop c).loop.invariant.0)) (sym c.kind.ensures ∙ c.if-kind-eq-TRUE.true), c.part-root.ensures.laid)
+    record { looked = found (t c) (folded c) (at-loop c).loop.choice c.part-root.result c.part-root.ensures.drafted (few c) _ (omega (arith, c.loop-choice-test.true, (at-loop c).loop.invariant.0)) (sym c.kind.ensures ∙ c.if-kind-eq-TRUE.true); laid = c.part-root.ensures.laid }
 
 pub overflow_add-choice : goal.overflow_add-choice
 overflow_add-choice c = omega (arith, c.loop-choice-test.true)
@@ -60,4 +60,4 @@ pub returns : goal.returns
 returns c =
     let inv = c.loop-choice.invariant in
     let a = c.args in
-    (none_found a.table.now a.bits (λ d h. inv.5 d (omega (arith, inv.0))), inv.4)
+    record { looked = none_found a.table.now a.bits (λ d h. inv.5 d (omega (arith, inv.0))); laid = inv.4 }
