@@ -1,11 +1,10 @@
 -- The words, and then their uses by the marks.
-use borrow.Author.Rules.{rules}
 use Rattle.check_rooms.proofs.fault_in.Goals as goal
 
 pub use_fault-requires : goal.use_fault-requires
 use_fault-requires c =
     let read = c.words_fault in
-    (rw read.auto.1.1.1.0 c.requires.0.numbers, read.ensures.marked c.in-Accepted.is)
+    (rw read.auto.marks c.requires.0.numbers, read.ensures.marked c.in-Accepted.is)
 
 pub returns-in-Refused : goal.returns-in-Refused
 returns-in-Refused c = rw (← c.words_fault.ensures.answer, c.in-Refused.is)

@@ -1,10 +1,9 @@
-use borrow.Author.Rules.{rules}
+-- Each check refuses where all before it pass.
 use Prim.Native.Nat.{ℕ, ◌≤◌, min}
 use native.Mathlib.Omega.{arith}
 use mathlib.Core.Path.{◌≡◌, sym, ap, ◌∙◌}
 use mathlib.Core.List.{List}
 use lib.ListN.{length, length-drop}
-use Rattle.refusals.specs.declared.Outcome.{Outcome}
 use Rattle.table.specs.Checks.{checked}
 use Rattle.table.specs.Header.{count, body, header_of}
 use Rattle.heading.proofs.Order.{whole_body, nothing-counted, no_word, too_many, differing, words-refused, header_wrong, header_right}
@@ -12,7 +11,6 @@ use Rattle.heading.proofs.check.Goals as goal
 
 pub returns-then-table-eq0 : goal.returns-then-table-eq0
 returns-then-table-eq0 c =
-    let t : List ℕ = c.args.table.now in
     let t = c.args.table.now in sym (no_word _ _ t (nothing-counted t c.if-table-eq0.true))
 
 pub returns-then-count-eq0 : goal.returns-then-count-eq0
@@ -27,35 +25,34 @@ returns-then-count-table c =
     let t : List ℕ = c.args.table.now in
     let some : count t ≡ 0 → ⊥ = λ e. c.if-count-eq0.false (c.right-count.ensures ∙ e) in
     let within : count t ≤ c.args.limit = omega (arith, c.right-count.ensures, c.if-limit-count.false) in
-    sym (differing _ _ (t) (some) (within) (λ e. c.if-count-table.true (c.right-count.ensures ∙ e ∙ length-drop 1 (t))))
+    sym (differing _ _ t some within (λ e. c.if-count-table.true (c.right-count.ensures ∙ e ∙ length-drop 1 t)))
 
 pub of-requires : goal.of-requires
-of-requires c =
-    record { plain_only = _; limit = _; accepted = sym c.in-Accepted.ensures; small = omega arith }
+of-requires c = record { plain_only = _; limit = _; accepted = sym c.in-Accepted.ensures; small = omega arith }
 
 pub returns-then-header-of : goal.returns-then-header-of
 returns-then-header-of c =
     let t : List ℕ = c.args.table.now in
     let some : count t ≡ 0 → ⊥ = λ e. c.if-count-eq0.false (c.right-count.ensures ∙ e) in
     let within : count t ≤ c.args.limit = omega (arith, c.right-count.ensures, c.if-limit-count.false) in
-    let same : count (t) ≡ length (body (t)) = sym c.before.before.right.ensures ∙ c.if-count-table.false ∙ sym (length-drop 1 (t)) in
-    let words : {o : Outcome} → c.check.result ≡ o → checked c.args.plain (min c.args.limit 16383) (body (t)) ≡ o = λ e. ap (checked _ _) (sym (whole_body (t))) ∙ sym c.check.ensures ∙ e in
-    sym (header_wrong _ _ (t) (some) (within) (same) (words c.in-Accepted.is) (λ e. c.if-header-of.true (e ∙ ap header_of (sym (whole_body (t))) ∙ sym c.of.ensures)))
+    let same : count t ≡ length (body t) = sym c.right-count.ensures ∙ c.if-count-table.false ∙ sym (length-drop 1 t) in
+    let words : checked c.args.plain (min c.args.limit 16383) (body t) ≡ c.check.result = ap (checked _ _) (sym (whole_body t)) ∙ sym c.check.ensures in
+    sym (header_wrong _ _ t some within same (words ∙ c.in-Accepted.is) (λ e. c.if-header-of.true (e ∙ ap header_of (sym (whole_body t)) ∙ sym c.of.ensures)))
 
 pub returns-in-Refused : goal.returns-in-Refused
 returns-in-Refused c =
     let t : List ℕ = c.args.table.now in
     let some : count t ≡ 0 → ⊥ = λ e. c.if-count-eq0.false (c.right-count.ensures ∙ e) in
     let within : count t ≤ c.args.limit = omega (arith, c.right-count.ensures, c.if-limit-count.false) in
-    let same : count (t) ≡ length (body (t)) = sym c.before.before.right.ensures ∙ c.if-count-table.false ∙ sym (length-drop 1 (t)) in
-    let words : {o : Outcome} → c.check.result ≡ o → checked c.args.plain (min c.args.limit 16383) (body (t)) ≡ o = λ e. ap (checked _ _) (sym (whole_body (t))) ∙ sym c.check.ensures ∙ e in
-    sym (words-refused _ _ (t) (some) (within) (same) (words c.in-Refused.is))
+    let same : count t ≡ length (body t) = sym c.right-count.ensures ∙ c.if-count-table.false ∙ sym (length-drop 1 t) in
+    let words : checked c.args.plain (min c.args.limit 16383) (body t) ≡ c.check.result = ap (checked _ _) (sym (whole_body t)) ∙ sym c.check.ensures in
+    sym (words-refused _ _ t some within same (words ∙ c.in-Refused.is))
 
 pub returns-else-header-of : goal.returns-else-header-of
 returns-else-header-of c =
     let t : List ℕ = c.args.table.now in
     let some : count t ≡ 0 → ⊥ = λ e. c.if-count-eq0.false (c.right-count.ensures ∙ e) in
     let within : count t ≤ c.args.limit = omega (arith, c.right-count.ensures, c.if-limit-count.false) in
-    let same : count (t) ≡ length (body (t)) = sym c.before.before.right.ensures ∙ c.if-count-table.false ∙ sym (length-drop 1 (t)) in
-    let words : {o : Outcome} → c.check.result ≡ o → checked c.args.plain (min c.args.limit 16383) (body (t)) ≡ o = λ e. ap (checked _ _) (sym (whole_body (t))) ∙ sym c.check.ensures ∙ e in
-    sym (header_right _ _ (t) (some) (within) (same) (words c.in-Accepted.is) (c.if-header-of.false ∙ c.of.ensures ∙ ap header_of (whole_body (t))))
+    let same : count t ≡ length (body t) = sym c.right-count.ensures ∙ c.if-count-table.false ∙ sym (length-drop 1 t) in
+    let words : checked c.args.plain (min c.args.limit 16383) (body t) ≡ c.check.result = ap (checked _ _) (sym (whole_body t)) ∙ sym c.check.ensures in
+    sym (header_right _ _ t some within same (words ∙ c.in-Accepted.is) (c.if-header-of.false ∙ c.of.ensures ∙ ap header_of (whole_body t)))

@@ -1,13 +1,8 @@
-use Prim.Native.Nat.{◌-◌, ◌≤◌}
-use mathlib.Core.Path.{◌≡◌, refl, sym, ◌∙◌}
-use mathlib.Core.List.{[]}
+use mathlib.Core.Path.{refl, sym, ◌∙◌}
 use native.Mathlib.Omega.{arith}
-use lib.ListN.{length, take, drop, drop_of_length-le}
+use lib.ListN.{drop_of_length-le}
 use lib.Seq.{take_all}
-use borrow.Author.Rules.{rules}
-use Rattle.refusals.specs.Refusals.{first}
 use Rattle.table.specs.Checks.{words_checks}
-use Rattle.faults.specs.Marks.{Kept}
 use Rattle.faults.proofs.First.{words_step, refused_kept}
 use Rattle.faults.proofs.Marking.{room_kept}
 use Rattle.faults.proofs.words.words_fault.Goals as goal
@@ -35,8 +30,8 @@ loop-i-preserved c =
     let read = c.word_fault in (
       omega arith,
       inv.1 ∙ words_step _ _ _ c.loop-i-test.true ∙ rw (← read.ensures.answer, c.in-Accepted.is),
-      read.auto.1.1.1.0 ∙ inv.2,
-      read.auto.1.1.1.1.0 ∙ inv.3,
+      read.auto.index ∙ inv.2,
+      read.auto.marks ∙ inv.3,
       read.ensures.kept c.in-Accepted.is,
     )
 

@@ -1,16 +1,11 @@
 -- The invariant: what all words are refused for is what those from number i + 1 on are, and the first i words are in the index and have their operands marked.
 use Prim.Native.Nat.{◌-◌, ◌≤◌}
-use mathlib.Core.Path.{◌≡◌, refl, sym, ◌∙◌}
+use mathlib.Core.Path.{◌≡◌}
 use mathlib.Core.List.{[]}
-use native.Mathlib.Omega.{arith}
-use lib.ListN.{length, take, drop, drop_of_length-le}
-use lib.Seq.{take_all}
-use borrow.Author.Rules.{rules}
+use lib.ListN.{length, take, drop}
 use Rattle.refusals.specs.Refusals.{first}
 use Rattle.table.specs.Checks.{words_checks}
 use Rattle.faults.specs.Marks.{Kept}
-use Rattle.faults.proofs.First.{words_step, refused_kept}
-use Rattle.faults.proofs.Marking.{room_kept}
 use Rattle.faults.proofs.words.words_fault.Given as goal
 
 abbrev pub invariant-loop-i : goal.invariant-loop-i
