@@ -1,5 +1,4 @@
 -- A refusal is handed on with the tally; else the reply is that of the accepted judgement.
-use borrow.Author.Rules.{rules}
 use Prim.Native.Nat.{ℕ, ◌≤◌}
 use native.Mathlib.Omega.{arith}
 use mathlib.Core.Path.{◌≡◌, sym, ◌∙◌}
@@ -13,6 +12,7 @@ use Rattle.judging.specs.Judging.{row_outcome, judge_outcome}
 use Rattle.evaluation.proofs.judge.Goals as goal
 
 pub slice_bounds-judge_accepted-count : goal.slice_bounds-judge_accepted-count
+unfolding judge_outcome
 slice_bounds-judge_accepted-count c =
     let t : List ℕ = c.args.table.now in
     let told : judge_outcome t c.args.samples.now c.args.start c.args.driven c.args.scratch.now c.args.desk ≡ Accepted = sym c.in-Accepted.ensures in
@@ -21,6 +21,7 @@ slice_bounds-judge_accepted-count c =
     omega (arith, some)
 
 pub slice_bounds-judge_accepted-start : goal.slice_bounds-judge_accepted-start
+unfolding judge_outcome
 slice_bounds-judge_accepted-start c =
     let t : List ℕ = c.args.table.now in
     let told : judge_outcome t c.args.samples.now c.args.start c.args.driven c.args.scratch.now c.args.desk ≡ Accepted = sym c.in-Accepted.ensures in
@@ -29,6 +30,7 @@ slice_bounds-judge_accepted-start c =
     omega (arith, some)
 
 pub judge_accepted-requires : goal.judge_accepted-requires
+unfolding judge_outcome
 judge_accepted-requires c =
     let t : List ℕ = c.args.table.now in
     let told : judge_outcome t c.args.samples.now c.args.start c.args.driven c.args.scratch.now c.args.desk ≡ Accepted = sym c.in-Accepted.ensures in
@@ -42,6 +44,7 @@ returns-in-Refused c =
     record { value = refused-reply _ _ _ _ _ _ _ told; scratch_after = refused-scratch _ _ _ _ _ told }
 
 pub returns-in-Accepted : goal.returns-in-Accepted
+unfolding judge_outcome
 returns-in-Accepted c =
     let t : List ℕ = c.args.table.now in
     let told : judge_outcome t c.args.samples.now c.args.start c.args.driven c.args.scratch.now c.args.desk ≡ Accepted = sym c.in-Accepted.ensures in

@@ -1,7 +1,4 @@
 -- The rows are those of the definition, and what is read off the last of them is the reply.
-use Prim.Native.Nat.{◌+◌, ◌-◌, ◌*◌, ◌≤◌}
-use borrow.Author.Rules.{rules}
-use lib.ListN.{length}
 use native.Mathlib.Omega.{arith}
 use mathlib.Core.Path.{refl}
 use Rattle.judging.proofs.LastRow.{some_word, last_small, last_end, last_for, last_row_lem, accepted-answer}

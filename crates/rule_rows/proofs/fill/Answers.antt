@@ -1,5 +1,4 @@
 -- The checks say what is answered, and what becomes of the scratch.
-use borrow.Author.Rules.{rules}
 use Prim.Native.Nat.{ℕ, ◌≤◌}
 use native.Mathlib.Omega.{arith}
 use mathlib.Core.Path.{◌≡◌, refl, sym, ◌∙◌}
@@ -12,6 +11,7 @@ use Rattle.judging.proofs.Accepted.{accepted-facts, accepted-fillable, accepted-
 use Rattle.rule_rows.proofs.fill.Goals as goal
 
 pub slice_bounds-fill_rows-count : goal.slice_bounds-fill_rows-count
+unfolding row_outcome
 slice_bounds-fill_rows-count c =
     let t : List ℕ = c.args.table.now in
     let told : row_outcome t c.args.samples.now c.args.start c.args.driven c.args.scratch.now ≡ Accepted = sym c.in-Accepted.ensures in
@@ -19,6 +19,7 @@ slice_bounds-fill_rows-count c =
     omega (arith, some)
 
 pub slice_bounds-fill_rows-start : goal.slice_bounds-fill_rows-start
+unfolding row_outcome
 slice_bounds-fill_rows-start c =
     let t : List ℕ = c.args.table.now in
     let told : row_outcome t c.args.samples.now c.args.start c.args.driven c.args.scratch.now ≡ Accepted = sym c.in-Accepted.ensures in
@@ -26,6 +27,7 @@ slice_bounds-fill_rows-start c =
     omega (arith, some)
 
 pub fill_rows-requires : goal.fill_rows-requires
+unfolding row_outcome
 fill_rows-requires c =
     let t : List ℕ = c.args.table.now in
     let told : row_outcome t c.args.samples.now c.args.start c.args.driven c.args.scratch.now ≡ Accepted = sym c.in-Accepted.ensures in
@@ -36,7 +38,7 @@ unfolding row_outcome scratch_after
 returns-in-Refused c = record { value = sym c.in-Refused.is ∙ c.check_row.ensures; scratch_after = refl }
 
 pub returns-in-Accepted : goal.returns-in-Accepted
-unfolding scratch_after
+unfolding row_outcome scratch_after
 returns-in-Accepted c =
     let t : List ℕ = c.args.table.now in
     let told : row_outcome t c.args.samples.now c.args.start c.args.driven c.args.scratch.now ≡ Accepted = sym c.in-Accepted.ensures in

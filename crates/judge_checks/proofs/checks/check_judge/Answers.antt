@@ -1,5 +1,4 @@
 -- The row call's checks, and where they pass the named desk's.
-use borrow.Author.Rules.{rules}
 use mathlib.Core.Path.{sym, ◌∙◌}
 use Rattle.judge_conditions.proofs.Outcomes.{judge_refused, judge_accepted}
 use Rattle.judge_checks.proofs.checks.check_judge.Goals as goal

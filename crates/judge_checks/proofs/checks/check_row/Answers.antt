@@ -1,9 +1,8 @@
 -- The checks of the table with its header, and where they pass those of the recording, the letters and the scratch, of its words.
-use borrow.Author.Rules.{rules}
-use Prim.Native.Nat.{ℕ, ◌≤◌}
+use Prim.Native.Nat.{ℕ}
 use native.Mathlib.Omega.{arith}
-use mathlib.Core.Bool.{false}
 use mathlib.Core.Path.{◌≡◌, sym, ap, ◌∙◌}
+use mathlib.Core.Bool.{false}
 use mathlib.Core.List.{List}
 use lib.ListN.{length}
 use Rattle.refusals.specs.declared.Outcome.TheVariants.{Accepted}
@@ -15,22 +14,15 @@ use Rattle.judge_conditions.proofs.Outcomes.{row-refused, row-accepted}
 use Rattle.judge_checks.proofs.checks.check_row.Goals as goal
 
 pub slice_bounds-check_memory-count : goal.slice_bounds-check_memory-count
-slice_bounds-check_memory-count c =
-    let t : List ℕ = c.args.table.now in
-    let some : 1 ≤ length t = omega (arith, ap length (accepted-headed false 16383 t).whole) in
-    omega (arith, some)
+slice_bounds-check_memory-count c = omega (arith, ap length (accepted-headed false 16383 c.args.table.now (sym c.in-Accepted.ensures)).whole)
 
 pub slice_bounds-check_memory-start : goal.slice_bounds-check_memory-start
-slice_bounds-check_memory-start c =
-    let t : List ℕ = c.args.table.now in
-    let some : 1 ≤ length t = omega (arith, ap length (accepted-headed false 16383 t).whole) in
-    omega (arith, some)
+slice_bounds-check_memory-start c = omega (arith, ap length (accepted-headed false 16383 c.args.table.now (sym c.in-Accepted.ensures)).whole)
 
 pub check_memory-requires : goal.check_memory-requires
 check_memory-requires c =
     let t : List ℕ = c.args.table.now in
-    let told : headed_checked false 16383 t ≡ Accepted = sym c.in-Accepted.ensures in
-    omega (arith, ap length (whole_body (t)), (accepted-well-formed false 16383 _ (accepted-headed false 16383 _ (told)).words).few)
+    omega (arith, ap length (whole_body t), (accepted-well-formed false 16383 _ (accepted-headed false 16383 t (sym c.in-Accepted.ensures)).words).few)
 
 pub returns-in-Refused : goal.returns-in-Refused
 returns-in-Refused c = sym (row-refused _ _ _ _ _ _ (sym c.in-Refused.ensures))
@@ -39,4 +31,4 @@ pub returns-in-Accepted : goal.returns-in-Accepted
 returns-in-Accepted c =
     let t : List ℕ = c.args.table.now in
     let told : headed_checked false 16383 t ≡ Accepted = sym c.in-Accepted.ensures in
-    rw (whole_body (t)) at c.check_memory.ensures ∙ sym (row-accepted _ _ _ _ _ (told))
+    rw (whole_body t) at c.check_memory.ensures ∙ sym (row-accepted _ _ _ _ _ told)
