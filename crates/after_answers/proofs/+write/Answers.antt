@@ -9,32 +9,32 @@ use Rattle.after_answers.proofs.Lent.{written_part}
 use Rattle.after_answers.proofs.+write.Goals as goal
 
 pub overflow_mul-slots : goal.overflow_mul-slots
-overflow_mul-slots c = omega (arith, table-few _ c.requires.1)
+overflow_mul-slots t c = omega (arith, table-few _ c.requires)
 
 pub overflow_add-slots : goal.overflow_add-slots
-overflow_add-slots c = omega (arith, table-few _ c.requires.1)
+overflow_add-slots t c = omega (arith, table-few _ c.requires)
 
 pub slice_bounds-write-end-then-slots-res : goal.slice_bounds-write-end-then-slots-res
-slice_bounds-write-end-then-slots-res c = sym (lent_length _ c.args.res.now c.if-slots-res.true)
+slice_bounds-write-end-then-slots-res t c = sym (lent_length _ c.args.res.now c.if-slots-res.true)
 
 pub write-requires : goal.write-requires
-write-requires c = (
-      omega (arith, c.requires.0, lent_length _ c.args.res.now c.if-slots-res.true),
-      c.requires.1,
+write-requires t c = (
+      omega (arith, c.decreases, lent_length _ c.args.res.now c.if-slots-res.true),
+      c.requires,
     )
 
 pub returns-then-slots-res : goal.returns-then-slots-res
-returns-then-slots-res c = written_part _ _ _ c.requires.1 c.if-slots-res.true c.write.ensures
+returns-then-slots-res t c = written_part _ _ _ c.requires c.if-slots-res.true c.write.ensures
 
 pub of_64-requires : goal.of_64-requires
-of_64-requires c = record { accepted = c.requires.1; few = omega arith; lent = omega arith }
+of_64-requires t c = record { accepted = c.requires; few = omega arith; lent = omega arith }
 
 pub of_512-requires : goal.of_512-requires
-of_512-requires c = record { accepted = c.requires.1; few = omega arith; lent = omega arith }
+of_512-requires t c = record { accepted = c.requires; few = omega arith; lent = omega arith }
 
 pub of_16383-requires : goal.of_16383-requires
-of_16383-requires c = record {
-      accepted = c.requires.1;
-      few = table-few _ c.requires.1;
+of_16383-requires t c = record {
+      accepted = c.requires;
+      few = table-few _ c.requires;
       lent = omega arith;
     }

@@ -17,8 +17,8 @@ returns-then-res-eq0 c =
 
 pub finish-requires-2 : goal.finish-requires-2
 finish-requires-2 c =
-    left_finishable (after_table c.args.sample c.args.words.now) c.args.res.now (after_accepted c.args.sample c.args.words.now c.requires) c.if-res-eq0.false c.write-n.auto.1.1.0 c.write-n.ensures
+    left_finishable (after_table c.args.sample c.args.words.now) c.args.res.now (after_accepted c.args.sample c.args.words.now c.requires) c.if-res-eq0.false c.write-n.auto.res c.write-n.ensures
 
 pub returns : goal.returns
 returns c =
-    left_given (after_table c.args.sample c.args.words.now) c.args.res.now (after_accepted c.args.sample c.args.words.now c.requires) c.if-res-eq0.false c.write-n.auto.1.1.0 c.write-n.ensures c.finish-2.ensures
+    left_given (after_table c.args.sample c.args.words.now) c.args.res.now (after_accepted c.args.sample c.args.words.now c.requires) c.if-res-eq0.false c.write-n.auto.res c.write-n.ensures c.finish-2.ensures

@@ -1,4 +1,3 @@
-use borrow.Author.Rules.{rules}
 use Rattle.agreement.proofs.Replied.{comparison-replied}
 use Rattle.comparison_call.proofs.compare.Goals as goal
 

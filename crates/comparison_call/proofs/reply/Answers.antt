@@ -1,6 +1,5 @@
 -- The numbers of each answer.
 use mathlib.Core.Path.{sym, ap, ◌∙◌}
-use borrow.Author.Rules.{rules}
 use Rattle.refusals.specs.declared.Report.{Report}
 use Rattle.agreement.specs.Replies.{told}
 use Rattle.comparison_call.proofs.reply.Goals as goal

@@ -1,6 +1,5 @@
 use native.Mathlib.Omega.{arith}
 use lib.ListN.{length-set}
-use borrow.Author.Rules.{rules}
 use Rattle.conjuncts.proofs.Stores.{three-conjoined}
 use Rattle.conjuncts.proofs.conjoin.Goals as goal
 

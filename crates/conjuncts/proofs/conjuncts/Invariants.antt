@@ -1,11 +1,7 @@
 -- The conjuncts of the words so far are joined.
 use Prim.Native.Nat.{◌-◌}
-use mathlib.Core.Logic.{⊎_elim}
 use lib.ListN.{length}
-use native.Mathlib.Omega.{arith}
-use borrow.Author.Rules.{rules}
-use Rattle.conjuncts.proofs.Conjoining.{Joining, joining_none, joining_other, joining_left, joining_room, joining_taken, joining_all}
-use Rattle.fixpoints.proofs.Positions.{kept_small}
+use Rattle.conjuncts.proofs.Conjoining.{Joining}
 use Rattle.conjuncts.proofs.conjuncts.Given as goal
 
 abbrev pub invariant-loop-i : goal.invariant-loop-i

@@ -1,4 +1,3 @@
-use borrow.Author.Rules.{rules}
 use Rattle.conjuncts.proofs.outer.Goals as goal
 
 pub returns-in-Least : goal.returns-in-Least

@@ -15,7 +15,7 @@ slice_bounds-source-end c =
 pub slice_bounds-res-end-in-Made : goal.slice_bounds-res-end-in-Made
 slice_bounds-res-end-in-Made c =
     let a = c.args in
-    made_within a.limits a.source.now a.res.now (sym c.form.ensures.value ∙ c.in-Made.is) c.form.new.1.1.0 c.form.auto.1.1.0
+    made_within a.limits a.source.now a.res.now (sym c.form.ensures.value ∙ c.in-Made.is) c.form.new.res c.form.auto.res
 
 pub returns-in-Refused : goal.returns-in-Refused
 returns-in-Refused c =

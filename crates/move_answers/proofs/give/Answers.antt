@@ -5,7 +5,7 @@ use Rattle.move_answers.proofs.give.Goals as goal
 
 pub returns-then-n-eq0 : goal.returns-then-n-eq0
 returns-then-n-eq0 c =
-    given_none c.place-n.ensures c.place-n.auto.1.1.1.1.1.1.0 c.if-n-eq0.true c.words.ensures
+    given_none c.place-n.ensures c.place-n.auto.res c.if-n-eq0.true c.words.ensures
 
 pub returns : goal.returns
 returns c = given_made c.place-n.ensures c.if-n-eq0.false

@@ -9,31 +9,28 @@ use Rattle.move_writing.proofs.Lent.{moved_part}
 use Rattle.move_writing.proofs.+write.Goals as goal
 
 pub overflow_mul-slots : goal.overflow_mul-slots
-overflow_mul-slots c = omega (arith, table-few _ c.requires.1.accepted)
+overflow_mul-slots t c = omega (arith, table-few _ c.requires.accepted)
 
 pub overflow_add-slots : goal.overflow_add-slots
-overflow_add-slots c = omega (arith, table-few _ c.requires.1.accepted)
+overflow_add-slots t c = omega (arith, table-few _ c.requires.accepted)
 
 pub slice_bounds-write-end-then-slots-res : goal.slice_bounds-write-end-then-slots-res
-slice_bounds-write-end-then-slots-res c = sym (lent_length _ c.args.res.now c.if-slots-res.true)
+slice_bounds-write-end-then-slots-res t c = sym (lent_length _ c.args.res.now c.if-slots-res.true)
 
 pub write-requires : goal.write-requires
-write-requires c = (
-      omega (arith, c.requires.0, lent_length _ c.args.res.now c.if-slots-res.true),
-      c.requires.1,
-    )
+write-requires t c = (omega (arith, lent_length _ c.args.res.now c.if-slots-res.true), c.requires)
 
 pub returns-then-slots-res : goal.returns-then-slots-res
-returns-then-slots-res c = moved_part _ _ _ _ c.if-slots-res.true c.write.ensures
+returns-then-slots-res t c = moved_part _ _ _ _ c.if-slots-res.true c.write.ensures
 
 pub of_64-requires : goal.of_64-requires
-of_64-requires c = (c.requires.1, record { few = omega arith; lent = omega arith })
+of_64-requires t c = record { drawn = c.requires; asked = record { few = omega arith; lent = omega arith } }
 
 pub of_512-requires : goal.of_512-requires
-of_512-requires c = (c.requires.1, record { few = omega arith; lent = omega arith })
+of_512-requires t c = record { drawn = c.requires; asked = record { few = omega arith; lent = omega arith } }
 
 pub of_4096-requires : goal.of_4096-requires
-of_4096-requires c = (c.requires.1, record { few = omega arith; lent = omega arith })
+of_4096-requires t c = record { drawn = c.requires; asked = record { few = omega arith; lent = omega arith } }
 
 pub of_16383-requires : goal.of_16383-requires
-of_16383-requires c = let q = c.requires.1 in (q, record { few = table-few _ q.accepted; lent = omega arith })
+of_16383-requires t c = let q = c.requires in record { drawn = q; asked = record { few = table-few _ q.accepted; lent = omega arith } }

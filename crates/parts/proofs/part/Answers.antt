@@ -12,14 +12,14 @@ use Rattle.parts.proofs.part.Goals as goal
 pub overflow_add-root : goal.overflow_add-root
 overflow_add-root c =
     let φ : Formula = normal.part (fixpoints c.args.table.now) (rule c.args.table.now) c.args.choice in
-    let filled : List ℕ = c.fill-root.new.1.1.1.0 in
-    omega (arith, narrow c.requires (filled) c.fill-root.auto.1.1.1.0 (φ) c.fill-root.result c.fill-root.ensures.drafted)
+    let filled : List ℕ = c.fill-root.new.draft in
+    omega (arith, narrow c.requires (filled) c.fill-root.auto.draft (φ) c.fill-root.result c.fill-root.ensures.drafted)
 
 pub fold-requires : goal.fold-requires
 fold-requires c =
     let φ : Formula = normal.part (fixpoints c.args.table.now) (rule c.args.table.now) c.args.choice in
-    let filled : List ℕ = c.fill-root.new.1.1.1.0 in
-    foldable c.requires (filled) c.fill-root.auto.1.1.1.0 (φ) c.fill-root.result c.fill-root.ensures.drafted
+    let filled : List ℕ = c.fill-root.new.draft in
+    foldable c.requires (filled) c.fill-root.auto.draft (φ) c.fill-root.result c.fill-root.ensures.drafted
 
 pub returns : goal.returns
 returns c =

@@ -8,7 +8,7 @@ pub slice_bounds-form-end : goal.slice_bounds-form-end
 slice_bounds-form-end c =
     let a = c.args in
     let f = c.plain_form in
-    within a.limits a.table.now a.plain.now f.new.1.1.0 _ (sym f.ensures.0 ∙ c.in-Made.is) f.auto.1.1.0
+    within a.limits a.table.now a.plain.now f.new.res _ (sym f.ensures.0 ∙ c.in-Made.is) f.auto.res
 
 pub returns-in-Refused : goal.returns-in-Refused
 returns-in-Refused c =

@@ -13,8 +13,8 @@ returns-then-res-eq0 c =
 
 pub finish-requires-2 : goal.finish-requires-2
 finish-requires-2 c =
-    form-finishable c.requires c.args.res.now c.if-res-eq0.false c.form-n.auto.1.0 c.form-n.ensures
+    form-finishable c.requires c.args.res.now c.if-res-eq0.false c.form-n.auto.res c.form-n.ensures
 
 pub returns : goal.returns
 returns c =
-    form_given c.requires c.args.res.now c.if-res-eq0.false c.form-n.auto.1.0 c.form-n.ensures c.finish-2.ensures
+    form_given c.requires c.args.res.now c.if-res-eq0.false c.form-n.auto.res c.form-n.ensures c.finish-2.ensures

@@ -11,7 +11,7 @@ overflow_sub-bits c =
 
 pub each-requires : goal.each-requires
 each-requires c =
-    (ready_again c.requires.ready c.opened.auto.1.1.1.0 c.opened.auto.1.1.1.1.0 c.opened.ensures.laid, c.requires.bits_value.1)
+    (ready_again c.requires.ready c.opened.auto.draft c.opened.auto.folded c.opened.ensures.laid, c.requires.bits_value.1)
 
 pub returns : goal.returns
 returns c =

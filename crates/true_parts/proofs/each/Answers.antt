@@ -27,10 +27,10 @@ pub bounds-folded-root : goal.bounds-folded-root
 bounds-folded-root c = within c
 
 pub shape_of-draft-then-kind-eq-TRUE : goal.shape_of-draft-then-kind-eq-TRUE
-shape_of-draft-then-kind-eq-TRUE c = c.part-root.auto.1.1.1.0 ∙ (at-loop c).loop.invariant.2
+shape_of-draft-then-kind-eq-TRUE c = c.part-root.auto.draft ∙ (at-loop c).loop.invariant.2
 
 pub shape_of-folded-then-kind-eq-TRUE : goal.shape_of-folded-then-kind-eq-TRUE
-shape_of-folded-then-kind-eq-TRUE c = c.part-root.auto.1.1.1.1.0 ∙ (at-loop c).loop.invariant.3
+shape_of-folded-then-kind-eq-TRUE c = c.part-root.auto.folded ∙ (at-loop c).loop.invariant.3
 
 pub returns-then-kind-eq-TRUE : goal.returns-then-kind-eq-TRUE
 returns-then-kind-eq-TRUE c =
@@ -44,8 +44,8 @@ loop-choice-preserved c =
     let inv = (at-loop c).loop.invariant in (
       inv.0,
       omega (arith, c.loop-choice-test.true),
-      c.part-root.auto.1.1.1.0 ∙ inv.2,
-      c.part-root.auto.1.1.1.1.0 ∙ inv.3,
+      c.part-root.auto.draft ∙ inv.2,
+      c.part-root.auto.folded ∙ inv.3,
       c.part-root.ensures.laid,
       untrue_next (t c) (folded c) (at-loop c).loop.choice c.part-root.result c.part-root.ensures.drafted (few c) (λ e. c.if-kind-eq-TRUE.false (c.kind.ensures ∙ e)) inv.5,
     )

@@ -12,8 +12,8 @@ returns c =
     let words = c.choose_words in
     let room = c.requires.fillable.room in
     let last = 5 * length c.args.table.now + 4 in (
-      opened_told c.args.table.now c.fold.new.1.1.0 c.args.choice last
-          (c.fold.ensures.slots _ last (omega arith) (rule_opened c.requires.fillable words.auto.1.1.1.0 words.ensures))
+      opened_told c.args.table.now c.fold.new.folded c.args.choice last
+          (c.fold.ensures.slots _ last (omega arith) (rule_opened c.requires.fillable words.auto.draft words.ensures))
           (omega (arith, room.long, room.narrow)) c.kind.ensures,
       words.ensures.laid,
     )
