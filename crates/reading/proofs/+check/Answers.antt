@@ -1,3 +1,4 @@
+-- The limit falls; the whole table first, and then its contents.
 use native.Mathlib.Omega.{arith}
 use lib.ListN.{length}
 use borrow.Author.Tests.{eq-eqb, ne_eqb}
