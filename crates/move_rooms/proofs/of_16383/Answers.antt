@@ -14,21 +14,17 @@ pub fill-root-requires : goal.fill-root-requires
 fill-root-requires c = let q = c.requires in record { drawn = q.drawn; words_in_bounds = room_for 16383 114688 q.asked (zeros_long 114688) (omega arith) (omega arith) }
 
 pub slice_bounds-of_114688-end : goal.slice_bounds-of_114688-end
-slice_bounds-of_114688-end c =
-    let long : 114688 ≡ length c.fill-root.new.draft = still_long 114688 c.fill-root.auto.draft in
-    long
+slice_bounds-of_114688-end c = still_long 114688 c.fill-root.auto.draft
 
 pub of_114688-requires : goal.of_114688-requires
 of_114688-requires c =
-    let long : 114688 ≡ length c.fill-root.new.draft = still_long 114688 c.fill-root.auto.draft in
     let a = c.args in
-    to_number 16383 114688 c.requires.asked (as_formula (written_at a.words.now a.state a.sample)) c.fill-root.ensures.drafted long (omega arith)
+    to_number 16383 114688 c.requires.asked (as_formula (written_at a.words.now a.state a.sample)) c.fill-root.ensures.drafted (still_long 114688 c.fill-root.auto.draft) (omega arith)
 
 pub shape_of-res : goal.shape_of-res
 shape_of-res c = c.of_114688.auto.res
 
 pub returns : goal.returns
 returns c =
-    let long : 114688 ≡ length c.fill-root.new.draft = still_long 114688 c.fill-root.auto.draft in
     let q = c.requires in
-    moved 16383 114688 q.asked q.drawn (c.fill-root.ensures.drafted, c.fill-root.ensures.upper_bound) long (omega arith) c.of_114688.ensures
+    moved 16383 114688 q.asked q.drawn (c.fill-root.ensures.drafted, c.fill-root.ensures.upper_bound) (still_long 114688 c.fill-root.auto.draft) (omega arith) c.of_114688.ensures

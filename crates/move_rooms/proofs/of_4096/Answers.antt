@@ -14,21 +14,17 @@ pub fill-root-requires : goal.fill-root-requires
 fill-root-requires c = let q = c.requires in record { drawn = q.drawn; words_in_bounds = room_for 4096 28679 q.asked (zeros_long 28679) (omega arith) (omega arith) }
 
 pub slice_bounds-of_32768-end : goal.slice_bounds-of_32768-end
-slice_bounds-of_32768-end c =
-    let long : 28679 ≡ length c.fill-root.new.draft = still_long 28679 c.fill-root.auto.draft in
-    long
+slice_bounds-of_32768-end c = still_long 28679 c.fill-root.auto.draft
 
 pub of_32768-requires : goal.of_32768-requires
 of_32768-requires c =
-    let long : 28679 ≡ length c.fill-root.new.draft = still_long 28679 c.fill-root.auto.draft in
     let a = c.args in
-    asked_larger (to_number 4096 28679 c.requires.asked (as_formula (written_at a.words.now a.state a.sample)) c.fill-root.ensures.drafted long (omega arith)) (omega arith)
+    asked_larger (to_number 4096 28679 c.requires.asked (as_formula (written_at a.words.now a.state a.sample)) c.fill-root.ensures.drafted (still_long 28679 c.fill-root.auto.draft) (omega arith)) (omega arith)
 
 pub shape_of-res : goal.shape_of-res
 shape_of-res c = c.of_32768.auto.res
 
 pub returns : goal.returns
 returns c =
-    let long : 28679 ≡ length c.fill-root.new.draft = still_long 28679 c.fill-root.auto.draft in
     let q = c.requires in
-    moved 4096 28679 q.asked q.drawn (c.fill-root.ensures.drafted, c.fill-root.ensures.upper_bound) long (omega arith) c.of_32768.ensures
+    moved 4096 28679 q.asked q.drawn (c.fill-root.ensures.drafted, c.fill-root.ensures.upper_bound) (still_long 28679 c.fill-root.auto.draft) (omega arith) c.of_32768.ensures

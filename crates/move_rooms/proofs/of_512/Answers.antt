@@ -14,21 +14,17 @@ pub fill-root-requires : goal.fill-root-requires
 fill-root-requires c = let q = c.requires in record { drawn = q.drawn; words_in_bounds = room_for 512 3591 q.asked (zeros_long 3591) (omega arith) (omega arith) }
 
 pub slice_bounds-of_3591-end : goal.slice_bounds-of_3591-end
-slice_bounds-of_3591-end c =
-    let long : 3591 ≡ length c.fill-root.new.draft = still_long 3591 c.fill-root.auto.draft in
-    long
+slice_bounds-of_3591-end c = still_long 3591 c.fill-root.auto.draft
 
 pub of_3591-requires : goal.of_3591-requires
 of_3591-requires c =
-    let long : 3591 ≡ length c.fill-root.new.draft = still_long 3591 c.fill-root.auto.draft in
     let a = c.args in
-    to_number 512 3591 c.requires.asked (as_formula (written_at a.words.now a.state a.sample)) c.fill-root.ensures.drafted long (omega arith)
+    to_number 512 3591 c.requires.asked (as_formula (written_at a.words.now a.state a.sample)) c.fill-root.ensures.drafted (still_long 3591 c.fill-root.auto.draft) (omega arith)
 
 pub shape_of-res : goal.shape_of-res
 shape_of-res c = c.of_3591.auto.res
 
 pub returns : goal.returns
 returns c =
-    let long : 3591 ≡ length c.fill-root.new.draft = still_long 3591 c.fill-root.auto.draft in
     let q = c.requires in
-    moved 512 3591 q.asked q.drawn (c.fill-root.ensures.drafted, c.fill-root.ensures.upper_bound) long (omega arith) c.of_3591.ensures
+    moved 512 3591 q.asked q.drawn (c.fill-root.ensures.drafted, c.fill-root.ensures.upper_bound) (still_long 3591 c.fill-root.auto.draft) (omega arith) c.of_3591.ensures
