@@ -1,6 +1,6 @@
 -- The checks of a table with its header, one after another.
 use Prim.Native.Nat.{ℕ, ◌≤◌, ◌<◌, ◌-◌, ◌^◌, min}
-use mathlib.Core.Path.{◌≡◌, refl, ap, ◌∙◌}
+use mathlib.Core.Path.{◌≡◌, refl, sym, ap, ◌∙◌}
 use mathlib.Core.Bool.{Bool, true, false, not}
 use mathlib.Core.List.{List, [], ◌∷◌}
 use native.Mathlib.Omega.{arith}
@@ -38,6 +38,10 @@ in_order p limit s =
 -- all that stands after the header
 pub whole_body : (s : List ℕ) → take (length s - 1) (body s) ≡ body s
 whole_body s = take_all (length s - 1) (body s) (omega (arith, length-drop 1 s))
+
+-- the words that were read are all that stand after the header
+pub words-read : (p : Bool) (limit : ℕ) (s : List ℕ) {o : Outcome} → o ≡ checked p (min limit 16383) (take (length s - 1) (body s)) → checked p (min limit 16383) (body s) ≡ o
+words-read p limit s e = ap (checked p (min limit 16383)) (sym (whole_body s)) ∙ sym e
 
 -- what is accepted has a header
 pub some_word : (p : Bool) (limit : ℕ) (s : List ℕ) → headed_checked p limit s ≡ Accepted → 1 ≤ length s

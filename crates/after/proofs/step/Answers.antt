@@ -14,29 +14,29 @@ pub slice_bounds-answer-count : goal.slice_bounds-answer-count
 slice_bounds-answer-count c =
     let accepted : first ((after_step c.args.sample c.args.driven).checks c.args.table.now) ≡ Accepted = sym c.in-Accepted.ensures in
     let header : 1 ≤ length c.args.table.now = some c.args.sample c.args.driven c.args.table.now c.args.res.now accepted in
-    omega (arith, header)
+    omega arith
 
 pub slice_bounds-answer-start : goal.slice_bounds-answer-start
 slice_bounds-answer-start c =
     let accepted : first ((after_step c.args.sample c.args.driven).checks c.args.table.now) ≡ Accepted = sym c.in-Accepted.ensures in
     let header : 1 ≤ length c.args.table.now = some c.args.sample c.args.driven c.args.table.now c.args.res.now accepted in
-    omega (arith, header)
+    omega arith
 
 pub answer-requires : goal.answer-requires
 answer-requires c =
     let accepted : first ((after_step c.args.sample c.args.driven).checks c.args.table.now) ≡ Accepted = sym c.in-Accepted.ensures in
     let a = c.args in
-    words-accepted a.sample a.driven a.table.now a.res.now (accepted)
+    words-accepted a.sample a.driven a.table.now a.res.now accepted
 
 pub returns-in-Refused : goal.returns-in-Refused
 returns-in-Refused c =
     let a = c.args in
     let r = refused a.sample a.driven a.table.now a.res.now c.in-Refused.r (sym c.in-Refused.ensures) in
-    (r.reply, r.slice)
+    record { value = r.reply; res_after = r.slice }
 
 pub returns-in-Accepted : goal.returns-in-Accepted
 returns-in-Accepted c =
     let accepted : first ((after_step c.args.sample c.args.driven).checks c.args.table.now) ≡ Accepted = sym c.in-Accepted.ensures in
     let a = c.args in
-    let r = made a.sample a.driven a.table.now a.res.now (accepted) c.answer.ensures in
-    (r.reply, r.slice)
+    let r = made a.sample a.driven a.table.now a.res.now accepted c.answer.ensures in
+    record { value = r.reply; res_after = r.slice }

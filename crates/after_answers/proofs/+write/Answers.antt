@@ -19,9 +19,9 @@ slice_bounds-write-end-then-slots-res t c = sym (lent_length _ c.args.res.now c.
 
 pub write-requires : goal.write-requires
 write-requires t c = (
-      omega (arith, c.decreases, lent_length _ c.args.res.now c.if-slots-res.true),
-      c.requires,
-    )
+  omega (arith, c.decreases, lent_length _ c.args.res.now c.if-slots-res.true),
+  c.requires,
+)
 
 pub returns-then-slots-res : goal.returns-then-slots-res
 returns-then-slots-res t c = written_part _ _ _ c.requires c.if-slots-res.true c.write.ensures
@@ -34,7 +34,7 @@ of_512-requires t c = record { accepted = c.requires; few = omega arith; lent = 
 
 pub of_16383-requires : goal.of_16383-requires
 of_16383-requires t c = record {
-      accepted = c.requires;
-      few = table-few _ c.requires;
-      lent = omega arith;
-    }
+  accepted = c.requires;
+  few = table-few _ c.requires;
+  lent = omega arith;
+}

@@ -15,14 +15,14 @@ use Rattle.after_checks.proofs.check.Goals as goal
 pub slice_bounds-check_sample-count : goal.slice_bounds-check_sample-count
 slice_bounds-check_sample-count c =
     let t : List ℕ = c.args.table.now in
-    let some : 1 ≤ length t = some_word true 16383 t in
-    omega (arith, some)
+    let some : 1 ≤ length t = some_word true 16383 t (sym c.in-Accepted.ensures) in
+    omega arith
 
 pub slice_bounds-check_sample-start : goal.slice_bounds-check_sample-start
 slice_bounds-check_sample-start c =
     let t : List ℕ = c.args.table.now in
-    let some : 1 ≤ length t = some_word true 16383 t in
-    omega (arith, some)
+    let some : 1 ≤ length t = some_word true 16383 t (sym c.in-Accepted.ensures) in
+    omega arith
 
 pub returns-in-Refused : goal.returns-in-Refused
 returns-in-Refused c = sym (table-refused 0 _ _ _ (sym c.in-Refused.ensures))
@@ -31,4 +31,4 @@ pub returns-in-Accepted : goal.returns-in-Accepted
 returns-in-Accepted c =
     let t : List ℕ = c.args.table.now in
     let told : headed_checked true 16383 t ≡ Accepted = sym c.in-Accepted.ensures in
-    rw (whole_body (t)) at c.check_sample.ensures ∙ sym (table-accepted 0 _ _ (told))
+    rw (whole_body t) at c.check_sample.ensures ∙ sym (table-accepted 0 _ _ told)

@@ -14,28 +14,28 @@ pub slice_bounds-sized-count : goal.slice_bounds-sized-count
 slice_bounds-sized-count c =
     let accepted : first (watched_checks c.args.table.now) ≡ Accepted = sym c.in-Accepted.ensures in
     let header : 1 ≤ length c.args.table.now = some c.args.table.now accepted in
-    omega (arith, header)
+    omega arith
 
 pub slice_bounds-sized-start : goal.slice_bounds-sized-start
 slice_bounds-sized-start c =
     let accepted : first (watched_checks c.args.table.now) ≡ Accepted = sym c.in-Accepted.ensures in
     let header : 1 ≤ length c.args.table.now = some c.args.table.now accepted in
-    omega (arith, header)
+    omega arith
 
 pub sized-requires : goal.sized-requires
 sized-requires c =
     let accepted : first (watched_checks c.args.table.now) ≡ Accepted = sym c.in-Accepted.ensures in
-    words-accepted c.args.table.now (accepted)
+    words-accepted c.args.table.now accepted
 
 pub returns-in-Refused : goal.returns-in-Refused
 returns-in-Refused c =
     let a = c.args in
     let r = table-refused a.state a.sample a.driven a.table.now a.res.now c.in-Refused.r (sym c.in-Refused.ensures) in
-    (r.reply, r.slice)
+    record { value = r.reply; res_after = r.slice }
 
 pub returns-in-Accepted : goal.returns-in-Accepted
 returns-in-Accepted c =
     let accepted : first (watched_checks c.args.table.now) ≡ Accepted = sym c.in-Accepted.ensures in
     let a = c.args in
-    let r = answered-ends a.state a.sample a.driven a.table.now a.res.now (accepted) c.sized.ensures in
-    (r.reply, r.slice)
+    let r = answered-ends a.state a.sample a.driven a.table.now a.res.now accepted c.sized.ensures in
+    record { value = r.reply; res_after = r.slice }

@@ -1,5 +1,4 @@
 -- The words, and then their uses by the marks.
-use borrow.Author.Rules.{rules}
 use Rattle.check_rooms.proofs.fault_in.Goals as goal
 
 pub use_fault-requires : goal.use_fault-requires

@@ -28,57 +28,48 @@ pub with_part-sum-requires : goal.with_part-sum-requires
 with_part-sum-requires c =
     let inv = c.loop-ones.invariant in
     let q = c.requires in
-    (joinable_again q.joinable inv.1 inv.2 inv.3 inv.4 inv.7 inv.8.numbered, (q.by_index.0 _ (choice-inside inv.0 (shifted c.args.bits q.by_index.1)), inv.8.small))
+    record {
+      joinable = joinable_again q.joinable inv.1 inv.2 inv.3 inv.4 inv.7 inv.8.numbered;
+      untrue = (q.by_index.0 _ (choice-inside inv.0 (shifted c.args.bits q.by_index.1)), inv.8.small);
+    }
 
 pub overflow_add-ones : goal.overflow_add-ones
-overflow_add-ones c = let l =
-    let began : goal.In-loop-ones = c.before.before.before.before.before.before.before in
-    began in count_fits l.before.loop.inv.0 l.loop-test.taken (l.before).requires.1.1
+overflow_add-ones c = count_fits c.loop-ones.invariant.0 c.loop-ones-test.true c.requires.by_index.1
 
 pub loop-ones-smaller-then-choice-eq0 : goal.loop-ones-smaller-then-choice-eq0
-loop-ones-smaller-then-choice-eq0 c = let l =
-    let began : goal.In-loop-ones = c.before.before.before.before.before.before.before in
-    began in row_less l.before.loop.inv.0 l.loop-test.taken
+loop-ones-smaller-then-choice-eq0 c = row_less c.loop-ones.invariant.0 c.loop-ones-test.true
 
 pub loop-ones-preserved-then-choice-eq0 : goal.loop-ones-preserved-then-choice-eq0
 loop-ones-preserved-then-choice-eq0 c =
-    let began : goal.In-loop-ones = c.before.before.before.before.before.before.before in
-    let done = c in
-    let l = began in
-    let inv = l.before.loop.inv in
-    let kept = done.with_part.kept.1.1.1.1 in (
-      counted-row inv.0 l.loop-test.taken,
-      kept.0 ∙ inv.1,
-      kept.1.0 ∙ inv.2,
-      kept.1.1.0 ∙ inv.3,
-      kept.1.1.1.0 ∙ inv.4,
-      kept.1.1.1.1.0 ∙ inv.5,
-      kept.1.1.1.1.1.0 ∙ inv.6,
-      done.with_part.ensures.1,
-      row-grown _ _ _ _ _ inv.0 (shifted (l.before).args.bits (l.before).requires.1.1) c.if-choice-eq0.true inv.8 done.with_part.ensures.0,
+    let inv = c.loop-ones.invariant in
+    let kept = c.with_part-sum.auto in (
+      counted-row inv.0 c.loop-ones-test.true,
+      kept.draft ∙ inv.1,
+      kept.folded ∙ inv.2,
+      kept.numbers ∙ inv.3,
+      kept.stack ∙ inv.4,
+      kept.out ∙ inv.5,
+      kept.index ∙ inv.6,
+      c.with_part-sum.ensures.laid,
+      row-grown _ _ _ _ _ inv.0 (shifted c.args.bits c.requires.by_index.1) c.if-choice-eq0.true inv.8 c.with_part-sum.ensures.grown,
     )
 
 pub loop-ones-smaller : goal.loop-ones-smaller
-loop-ones-smaller c =
-    let began : goal.In-loop-ones = c.before.before.before.before.before.before.before in
-    choice_less began.before.loop.inv.0
+loop-ones-smaller c = choice_less c.loop-ones.invariant.0
 
 pub loop-ones-preserved : goal.loop-ones-preserved
 loop-ones-preserved c =
-    let began : goal.In-loop-ones = c.before.before.before.before.before.before.before in
-    let done = c in
-    let l = began in
-    let inv = l.before.loop.inv in
-    let kept = done.with_part.kept.1.1.1.1 in (
-      counted-choice inv.0 l.loop-test.taken c.if-choice-eq0.false,
-      kept.0 ∙ inv.1,
-      kept.1.0 ∙ inv.2,
-      kept.1.1.0 ∙ inv.3,
-      kept.1.1.1.0 ∙ inv.4,
-      kept.1.1.1.1.0 ∙ inv.5,
-      kept.1.1.1.1.1.0 ∙ inv.6,
-      done.with_part.ensures.1,
-      next_grown _ _ _ _ _ inv.0 inv.8 done.with_part.ensures.0,
+    let inv = c.loop-ones.invariant in
+    let kept = c.with_part-sum.auto in (
+      counted-choice inv.0 c.loop-ones-test.true c.if-choice-eq0.false,
+      kept.draft ∙ inv.1,
+      kept.folded ∙ inv.2,
+      kept.numbers ∙ inv.3,
+      kept.stack ∙ inv.4,
+      kept.out ∙ inv.5,
+      kept.index ∙ inv.6,
+      c.with_part-sum.ensures.laid,
+      next_grown _ _ _ _ _ inv.0 inv.8 c.with_part-sum.ensures.grown,
     )
 
 pub shape_of-draft : goal.shape_of-draft

@@ -26,7 +26,7 @@ returns-then-bytes-table c =
     let b = c.args.bytes.now in
     let a = accepted in
     let f = too_short t a b (omega (arith, c.if-bytes-table.true)) in
-    (sym (too_long class_step t b a f), c.bytes.ensures ∙ sym (too_long-result class_step t b a f))
+    record { value = sym (too_long class_step t b a f); bytes_after = c.bytes.ensures ∙ sym (too_long-result class_step t b a f) }
 
 pub slice_bounds-fill-count : goal.slice_bounds-fill-count
 slice_bounds-fill-count c =
@@ -48,7 +48,7 @@ unfolding headed_checked
 returns-in-Refused c =
     let s = c.args in
     let e = sym c.in-Refused.ensures in
-    (sym (refused class_step s.table.now s.bytes.now _ e), sym (refused-result class_step s.table.now s.bytes.now class-early _ e))
+    record { value = sym (refused class_step s.table.now s.bytes.now _ e); bytes_after = sym (refused-result class_step s.table.now s.bytes.now class-early _ e) }
 
 pub returns-else-bytes-table : goal.returns-else-bytes-table
 unfolding headed_checked
@@ -58,4 +58,4 @@ returns-else-bytes-table c =
     let b = c.args.bytes.now in
     let a = accepted in
     let h : length t - 1 ≤ length b = omega (arith, c.if-bytes-table.false) in
-    (sym (made class_step t b a (long_enough t a b h)), c.fill.ensures ∙ sym (written t a b h))
+    record { value = sym (made class_step t b a (long_enough t a b h)); bytes_after = c.fill.ensures ∙ sym (written t a b h) }

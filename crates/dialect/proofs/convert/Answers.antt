@@ -27,10 +27,10 @@ answer-requires c =
 pub returns-in-Refused : goal.returns-in-Refused
 returns-in-Refused c =
     let r = refused c.args.table.now c.args.res.now c.in-Refused.r (sym c.in-Refused.ensures) in
-    (r.reply, r.slice)
+    record { value = r.reply; res_after = r.slice }
 
 pub returns-in-Accepted : goal.returns-in-Accepted
 returns-in-Accepted c =
     let accepted : headed_checked true 16383 c.args.table.now ≡ Accepted = sym c.in-Accepted.ensures in
     let r = made c.args.table.now c.args.res.now (accepted) c.answer.ensures in
-    (r.reply, r.slice)
+    record { value = r.reply; res_after = r.slice }

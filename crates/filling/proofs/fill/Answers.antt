@@ -1,10 +1,6 @@
-use native.Mathlib.Omega.{arith}
-use borrow.Author.Rules.{rules}
+use Rattle.std.proofs.Common.{arith}
 use Rattle.filling.proofs.Part.{joinable_least, joinable_greatest, part_drafted, still_laid}
 use Rattle.filling.proofs.fill.Goals as goal
-
-pub choose_words-requires : goal.choose_words-requires
-choose_words-requires c = c.requires
 
 pub conjuncts-recurring-requires : goal.conjuncts-recurring-requires
 conjuncts-recurring-requires c = joinable_least c.requires c.choose_words.auto.draft c.choose_words.ensures
@@ -22,4 +18,4 @@ returns c =
     let w = c.choose_words.ensures in
     let j = c.conjuncts-recurring.ensures in
     let k = c.conjuncts-steady.ensures in
-    (part_drafted q l w j k, still_laid q l w j k)
+    record { drafted = part_drafted q l w j k; laid = still_laid q l w j k }

@@ -4,4 +4,4 @@ use Rattle.form_calls.proofs.normal.Goals as goal
 pub returns : goal.returns
 returns c =
     let e = c.form.ensures in
-    (rw e.value at c.form_reply.ensures, e.res_after)
+    record { form_reply = rw e.value at c.form_reply.ensures; res_after = e.res_after }

@@ -8,7 +8,7 @@ use Rattle.form_table.proofs.form.Goals as goal
 
 pub any-requires : goal.any-requires
 any-requires c =
-    (ready_first c.requires c.fill_words.auto.draft c.fill_words.ensures, (c.requires.bits_are, c.requires.few))
+    record { ready = ready_first c.requires c.fill_words.auto.draft c.fill_words.ensures; bits_value = (c.requires.bits_are, c.requires.few) }
 
 pub returns-then-any : goal.returns-then-any
 returns-then-any c =
@@ -18,7 +18,7 @@ returns-then-any c =
 pub all-sum-requires : goal.all-sum-requires
 all-sum-requires c =
     let f = c in
-    (joinable_first f.pre f.fill-words.kept.1.0 f.fill-words.ensures c.any.auto.draft c.any.auto.folded c.any.ensures.laid, (c.any.ensures.looked.none c.if-any.false, f.pre.few))
+    record { joinable = joinable_first f.pre f.fill-words.kept.1.0 f.fill-words.ensures c.any.auto.draft c.any.auto.folded c.any.ensures.laid; by_index = (c.any.ensures.looked.none c.if-any.false, f.pre.few) }
 
 pub close-requires : goal.close-requires
 close-requires c =

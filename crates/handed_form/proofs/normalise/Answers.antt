@@ -21,23 +21,14 @@ pub returns-in-Refused : goal.returns-in-Refused
 returns-in-Refused c =
     let a = c.args in
     let told = sym c.form.ensures.value ∙ c.in-Refused.is in
-    let report = c.report_of-report.ensures ∙ ap form_report (sym told) in (
-      refused-handed a.limits a.source.now a.res.now told,
-      (front_at _ _ _ told refl, (ap (λ (r : Report). r.0) report, ap (λ (r : Report). r.1) report)),
-    )
+    let report = c.report_of-report.ensures ∙ ap form_report (sym told) in record { result_value = refused-handed a.limits a.source.now a.res.now told; ref_ptr_value = front_at _ _ _ told refl; number_after = ap (λ (r : Report). r.0) report; place_after = ap (λ (r : Report). r.1) report }
 
 pub returns-in-Source : goal.returns-in-Source
 returns-in-Source c =
     let a = c.args in
-    let told = sym c.form.ensures.value ∙ c.in-Source.is in (
-      source-handed a.limits a.source.now a.res.now told,
-      (front_at _ _ _ told refl, (ap (λ (f : Form). (form_report f).0) (sym told), ap (λ (f : Form). (form_report f).1) (sym told))),
-    )
+    let told = sym c.form.ensures.value ∙ c.in-Source.is in record { result_value = source-handed a.limits a.source.now a.res.now told; ref_ptr_value = front_at _ _ _ told refl; number_after = ap (λ (f : Form). (form_report f).0) (sym told); place_after = ap (λ (f : Form). (form_report f).1) (sym told) }
 
 pub returns-in-Made : goal.returns-in-Made
 returns-in-Made c =
     let a = c.args in
-    let told = sym c.form.ensures.value ∙ c.in-Made.is in (
-      made_handed a.limits a.source.now a.res.now told c.form.ensures.res_after,
-      (front_at _ _ _ told refl, (ap (λ (f : Form). (form_report f).0) (sym told), ap (λ (f : Form). (form_report f).1) (sym told))),
-    )
+    let told = sym c.form.ensures.value ∙ c.in-Made.is in record { result_value = made_handed a.limits a.source.now a.res.now told c.form.ensures.res_after; ref_ptr_value = front_at _ _ _ told refl; number_after = ap (λ (f : Form). (form_report f).0) (sym told); place_after = ap (λ (f : Form). (form_report f).1) (sym told) }

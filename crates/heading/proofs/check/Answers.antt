@@ -1,17 +1,14 @@
 -- Each check refuses where all before it pass.
-use Prim.Native.Nat.{ℕ, ◌≤◌, min}
+use Prim.Native.Nat.{◌≤◌}
 use native.Mathlib.Omega.{arith}
 use mathlib.Core.Path.{◌≡◌, sym, ap, ◌∙◌}
-use mathlib.Core.List.{List}
 use lib.ListN.{length, length-drop}
-use Rattle.table.specs.Checks.{checked}
 use Rattle.table.specs.Header.{count, body, header_of}
-use Rattle.heading.proofs.Order.{whole_body, nothing-counted, no_word, too_many, differing, words-refused, header_wrong, header_right}
+use Rattle.heading.proofs.Order.{whole_body, words-read, nothing-counted, no_word, too_many, differing, words-refused, header_wrong, header_right}
 use Rattle.heading.proofs.check.Goals as goal
 
 pub returns-then-table-eq0 : goal.returns-then-table-eq0
-returns-then-table-eq0 c =
-    let t = c.args.table.now in sym (no_word _ _ t (nothing-counted t c.if-table-eq0.true))
+returns-then-table-eq0 c = sym (no_word _ _ _ (nothing-counted c.args.table.now c.if-table-eq0.true))
 
 pub returns-then-count-eq0 : goal.returns-then-count-eq0
 returns-then-count-eq0 c = sym (no_word _ _ _ (sym c.right-count.ensures ∙ c.if-count-eq0.true))
@@ -20,39 +17,38 @@ pub returns-then-limit-count : goal.returns-then-limit-count
 returns-then-limit-count c =
     sym (too_many _ _ _ (λ e. c.if-count-eq0.false (c.right-count.ensures ∙ e)) (omega (arith, c.right-count.ensures, c.if-limit-count.true)))
 
+-- the header counts as many words as the limit allows, and at least one
 pub returns-then-count-table : goal.returns-then-count-table
 returns-then-count-table c =
-    let t : List ℕ = c.args.table.now in
+    let t = c.args.table.now in
     let some : count t ≡ 0 → ⊥ = λ e. c.if-count-eq0.false (c.right-count.ensures ∙ e) in
     let within : count t ≤ c.args.limit = omega (arith, c.right-count.ensures, c.if-limit-count.false) in
     sym (differing _ _ t some within (λ e. c.if-count-table.true (c.right-count.ensures ∙ e ∙ length-drop 1 t)))
 
+-- and it counts the words that follow, which were checked
 pub of-requires : goal.of-requires
 of-requires c = record { plain_only = _; limit = _; accepted = sym c.in-Accepted.ensures; small = omega arith }
 
 pub returns-then-header-of : goal.returns-then-header-of
 returns-then-header-of c =
-    let t : List ℕ = c.args.table.now in
+    let t = c.args.table.now in
     let some : count t ≡ 0 → ⊥ = λ e. c.if-count-eq0.false (c.right-count.ensures ∙ e) in
     let within : count t ≤ c.args.limit = omega (arith, c.right-count.ensures, c.if-limit-count.false) in
     let same : count t ≡ length (body t) = sym c.right-count.ensures ∙ c.if-count-table.false ∙ sym (length-drop 1 t) in
-    let words : checked c.args.plain (min c.args.limit 16383) (body t) ≡ c.check.result = ap (checked _ _) (sym (whole_body t)) ∙ sym c.check.ensures in
-    sym (header_wrong _ _ t some within same (words ∙ c.in-Accepted.is) (λ e. c.if-header-of.true (e ∙ ap header_of (sym (whole_body t)) ∙ sym c.of.ensures)))
+    sym (header_wrong _ _ t some within same (words-read _ _ t c.in-Accepted.ensures) (λ e. c.if-header-of.true (e ∙ ap header_of (sym (whole_body t)) ∙ sym c.of.ensures)))
 
 pub returns-in-Refused : goal.returns-in-Refused
 returns-in-Refused c =
-    let t : List ℕ = c.args.table.now in
+    let t = c.args.table.now in
     let some : count t ≡ 0 → ⊥ = λ e. c.if-count-eq0.false (c.right-count.ensures ∙ e) in
     let within : count t ≤ c.args.limit = omega (arith, c.right-count.ensures, c.if-limit-count.false) in
     let same : count t ≡ length (body t) = sym c.right-count.ensures ∙ c.if-count-table.false ∙ sym (length-drop 1 t) in
-    let words : checked c.args.plain (min c.args.limit 16383) (body t) ≡ c.check.result = ap (checked _ _) (sym (whole_body t)) ∙ sym c.check.ensures in
-    sym (words-refused _ _ t some within same (words ∙ c.in-Refused.is))
+    sym (words-refused _ _ t some within same (words-read _ _ t c.in-Refused.ensures))
 
 pub returns-else-header-of : goal.returns-else-header-of
 returns-else-header-of c =
-    let t : List ℕ = c.args.table.now in
+    let t = c.args.table.now in
     let some : count t ≡ 0 → ⊥ = λ e. c.if-count-eq0.false (c.right-count.ensures ∙ e) in
     let within : count t ≤ c.args.limit = omega (arith, c.right-count.ensures, c.if-limit-count.false) in
     let same : count t ≡ length (body t) = sym c.right-count.ensures ∙ c.if-count-table.false ∙ sym (length-drop 1 t) in
-    let words : checked c.args.plain (min c.args.limit 16383) (body t) ≡ c.check.result = ap (checked _ _) (sym (whole_body t)) ∙ sym c.check.ensures in
-    sym (header_right _ _ t some within same (words ∙ c.in-Accepted.is) (c.if-header-of.false ∙ c.of.ensures ∙ ap header_of (whole_body t)))
+    sym (header_right _ _ t some within same (words-read _ _ t c.in-Accepted.ensures) (c.if-header-of.false ∙ c.of.ensures ∙ ap header_of (whole_body t)))

@@ -1,16 +1,8 @@
 -- A word added at the front of its chain; each earlier word keeps its own place.
 use native.Mathlib.Numerals.{add-one}
 use native.Mathlib.Omega.{arith}
-use borrow.Author.Rules.{rules}
-use lib.ListN.{length-set}
 use Rattle.indexing.proofs.Adding.{indexed_more}
 use Rattle.indexing.proofs.add.Goals as goal
-
-pub bounds-index-head-2 : goal.bounds-index-head-2
-bounds-index-head-2 c = simp length-set (omega arith)
-
-pub bounds-index-0-2 : goal.bounds-index-0-2
-bounds-index-0-2 c = simp length-set (omega arith)
 
 pub returns : goal.returns
 returns c =

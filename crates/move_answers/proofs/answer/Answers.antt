@@ -10,7 +10,7 @@ use Rattle.move_answers.proofs.answer.Goals as goal
 pub give-requires : goal.give-requires
 give-requires c =
     let passed : first (left_checks c.args.state c.args.driven c.args.words.now) ≡ Accepted = sym c.in-Accepted.ensures in
-    left_known c.args.driven c.requires.accepted c.fill.ensures (passed)
+    left_known c.args.driven c.requires.accepted c.fill-total.ensures passed
 
 pub returns-in-Refused : goal.returns-in-Refused
 returns-in-Refused c = answered-refused (sym c.in-Refused.ensures)
@@ -18,4 +18,4 @@ returns-in-Refused c = answered-refused (sym c.in-Refused.ensures)
 pub returns-in-Accepted : goal.returns-in-Accepted
 returns-in-Accepted c =
     let passed : first (left_checks c.args.state c.args.driven c.args.words.now) ≡ Accepted = sym c.in-Accepted.ensures in
-    answered_given (passed) c.give.ensures
+    answered_given passed c.give.ensures

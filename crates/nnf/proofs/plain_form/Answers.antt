@@ -15,7 +15,7 @@ pub returns-then-not-permitted : goal.returns-then-not-permitted
 returns-then-not-permitted c =
     let a = c.args in
     let r = outside a.limits a.table.now a.res.now (limits_outside a.limits _ c.permitted.ensures c.if-not-permitted.true) in
-    (r.reply, r.slice)
+    record { value = r.reply; res_after = r.slice }
 
 pub slice_bounds-answer-count : goal.slice_bounds-answer-count
 slice_bounds-answer-count c =
@@ -41,7 +41,7 @@ returns-in-Refused c =
     let within : is_permitted c.args.limits ≡ true = limits_within c.args.limits _ c.permitted.ensures c.if-not-permitted.false in
     let a = c.args in
     let r = refused a.limits a.table.now a.res.now (within) c.in-Refused.r (sym c.in-Refused.ensures) in
-    (r.reply, r.slice)
+    record { value = r.reply; res_after = r.slice }
 
 pub returns-in-Accepted : goal.returns-in-Accepted
 returns-in-Accepted c =
@@ -49,4 +49,4 @@ returns-in-Accepted c =
     let accepted : headed_checked false c.args.limits.written c.args.table.now ≡ Accepted = sym c.in-Accepted.ensures in
     let a = c.args in
     let r = given a.limits a.table.now a.res.now (within c) (accepted) (rw (whole_body a.table.now) at c.answer.ensures) in
-    (r.reply, r.slice)
+    record { value = r.reply; res_after = r.slice }

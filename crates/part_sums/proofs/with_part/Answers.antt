@@ -39,12 +39,12 @@ module _ (p : goal.After-part-root) where
 pub returns-then-choice-ones : goal.returns-then-choice-ones
 returns-then-choice-ones c =
     let pre = c.requires in
-    (part_other _ _ _ pre.joinable.numbered pre.untrue.1 c.if-choice-ones.true, pre.joinable.ready.fillable.laid)
+    record { grown = part_other _ _ _ pre.joinable.numbered pre.untrue.1 c.if-choice-ones.true; laid = pre.joinable.ready.fillable.laid }
 
 pub returns-in-Full : goal.returns-in-Full
 returns-in-Full c =
     let pre = c.requires in
-    (part_full _ _ _ c.if-choice-ones.false pre.joinable.numbered pre.untrue.0 c.in-Full.is, pre.joinable.ready.fillable.laid)
+    record { grown = part_full _ _ _ c.if-choice-ones.false pre.joinable.numbered pre.untrue.0 c.in-Full.is; laid = pre.joinable.ready.fillable.laid }
 
 pub offset_bounds-folded-root : goal.offset_bounds-folded-root
 offset_bounds-folded-root c = omega (arith, within c, few c)
@@ -54,11 +54,11 @@ bounds-folded-root c = within c
 
 pub returns-then-kind-eq-FALSE : goal.returns-then-kind-eq-FALSE
 returns-then-kind-eq-FALSE c =
-    let pre = (start c).requires in (
-      part_false (t c) (choice c) _ (counted c) pre.0.numbered pre.1.1
-          (root_false (t c) (folded c) (choice c) c.part-root.result c.part-root.ensures.drafted (few c) (sym c.kind.ensures ∙ c.if-kind-eq-FALSE.true)),
-      c.part-root.ensures.laid,
-    )
+    let pre = (start c).requires in record {
+      grown = part_false (t c) (choice c) _ (counted c) pre.0.numbered pre.1.1
+          (root_false (t c) (folded c) (choice c) c.part-root.result c.part-root.ensures.drafted (few c) (sym c.kind.ensures ∙ c.if-kind-eq-FALSE.true));
+      laid = c.part-root.ensures.laid;
+    }
 
 pub join-requires : goal.join-requires
 join-requires c =
@@ -76,9 +76,9 @@ join-requires c =
 
 pub returns : goal.returns
 returns c =
-    (
-      part_joined (t c) (choice c) _ (counted c)
+    record {
+      grown = part_joined (t c) (choice c) _ (counted c)
           (c.join.ensures (folded_part (t c) (choice c)) c.part-root.ensures.drafted
-          (root_standing (t c) (folded c) (choice c) c.part-root.result c.part-root.ensures.drafted (few c) (start c).requires.1.0 (λ e. c.if-kind-eq-FALSE.false (c.kind.ensures ∙ e)))),
-      c.part-root.ensures.laid,
-    )
+          (root_standing (t c) (folded c) (choice c) c.part-root.result c.part-root.ensures.drafted (few c) (start c).requires.1.0 (λ e. c.if-kind-eq-FALSE.false (c.kind.ensures ∙ e))));
+      laid = c.part-root.ensures.laid;
+    }

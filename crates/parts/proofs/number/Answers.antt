@@ -1,10 +1,8 @@
-use borrow.Author.Rules.{rules}
 use Rattle.parts.proofs.Unnumbered.{numberable}
 use Rattle.parts.proofs.number.Goals as goal
 
 pub number-requires : goal.number-requires
-number-requires c =
-    (c.requires.numbered, numberable c.requires c.numbers.ensures)
+number-requires c = record { numbered = c.requires.numbered; numberable = numberable c.requires c.numbers.ensures }
 
 pub returns : goal.returns
 returns c φ r = c.number.ensures.placed φ r

@@ -4,4 +4,4 @@ use Rattle.plain_call.proofs.plain.Goals as goal
 pub returns : goal.returns
 returns c =
     let e = c.plain_form.ensures in
-    (rw e.value at c.table_reply.ensures, e.res_after)
+    record { table_reply = rw e.value at c.table_reply.ensures; res_after = e.res_after }

@@ -6,4 +6,4 @@ use Rattle.table_calls.proofs.check.Goals as goal
 pub returns : goal.returns
 returns c =
     let e = c.check.ensures in
-    (c.reply.ensures.value ∙ ap outcome_number e, c.reply.ensures.place_after ∙ ap outcome_place e)
+    record { value = c.reply.ensures.value ∙ ap outcome_number e; place_after = c.reply.ensures.place_after ∙ ap outcome_place e }

@@ -6,4 +6,4 @@ use Rattle.table_calls.proofs.classify.Goals as goal
 pub returns : goal.returns
 returns c =
     let e = c.classify.ensures in
-    (c.reply.ensures.value ∙ ap outcome_number e.value, (c.reply.ensures.place_after ∙ ap outcome_place e.value, e.bytes_after))
+    record { value = c.reply.ensures.value ∙ ap outcome_number e.value; place_after = c.reply.ensures.place_after ∙ ap outcome_place e.value; bytes_after = e.bytes_after }

@@ -41,8 +41,9 @@ pub returns-then-limits-n : goal.returns-then-limits-n
 returns-then-limits-n c =
     let a = c.args in
     let p = c.parse-place.ensures in
-    let read = p.reads c.if-place-ne0.false in
-    let few : length (table_of read.0) ≡ c.count-n.result = counted p c.if-place-ne0.false _ c.count-n.ensures in
+    let z : c.parse-place.result ≡ 0 = omega arith in
+    let read = p.reads z in
+    let few : length (table_of read.0) ≡ c.count-n.result = counted p z _ c.count-n.ensures in
     let q =
     outcome_many a.limits a.text.now a.res.now (sym c.permitted.ensures ∙ c.if-not-permitted.false) c.if-text-gt1024.false read.0 read.1
     (omega (arith, few, c.if-limits-n.true))

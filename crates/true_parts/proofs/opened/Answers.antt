@@ -1,7 +1,4 @@
-use Prim.Native.Nat.{◌+◌, ◌*◌}
-use native.Mathlib.Omega.{arith}
-use lib.ListN.{length}
-use borrow.Author.Rules.{rules}
+use Rattle.std.proofs.Common.{◌+◌, ◌*◌, length, arith}
 use Rattle.filling.proofs.Part.{rule_opened}
 use Rattle.true_parts.proofs.Looks.{opened_told}
 use Rattle.true_parts.proofs.opened.Goals as goal
@@ -11,9 +8,10 @@ pub returns : goal.returns
 returns c =
     let words = c.choose_words in
     let room = c.requires.fillable.room in
-    let last = 5 * length c.args.table.now + 4 in (
-      opened_told c.args.table.now c.fold.new.folded c.args.choice last
+    let last = 5 * length c.args.table.now + 4 in
+    record {
+      opened = opened_told c.args.table.now c.fold.new.folded c.args.choice last
           (c.fold.ensures.slots _ last (omega arith) (rule_opened c.requires.fillable words.auto.draft words.ensures))
-          (omega (arith, room.long, room.narrow)) c.kind.ensures,
-      words.ensures.laid,
-    )
+          (omega (arith, room.long, room.narrow)) c.kind.ensures;
+      laid = words.ensures.laid;
+    }

@@ -11,4 +11,4 @@ pub returns-then-m-gt32 : goal.returns-then-m-gt32
 returns-then-m-gt32 c = digit-out _ _ c.stuck-then-m-gt32.ensures (large-out _ c.if-m-gt32.true)
 
 pub returns : goal.returns
-returns c = (digit_in _ (omega (arith, c.if-m-eq0.false)) c.if-m-gt32.false, c.if-m-gt32.false, refl)
+returns c = (digit_in _ (omega arith) (omega arith), omega arith, refl)

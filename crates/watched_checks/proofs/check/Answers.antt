@@ -17,15 +17,14 @@ use Rattle.watched_checks.proofs.check.Goals as goal
 pub bounds-table-0 : goal.bounds-table-0
 bounds-table-0 c =
     let t : List ℕ = c.args.table.now in
-    let some : 1 ≤ length t = some_word true 16383 t in
-    some
+    some_word true 16383 t (sym c.in-Accepted.ensures)
 
 pub returns-then-is_normal : goal.returns-then-is_normal
 returns-then-is_normal c =
     let t : List ℕ = c.args.table.now in
     let accepted : headed_checked true 16383 t ≡ Accepted = sym c.in-Accepted.ensures in
-    let normal : c.is_normal.result ≡ is_normal (body (t)) = let told = c in c.is_normal.ensures ∙ normal-header 16383 (omega arith) (t) (accepted) in
-    let told = c in sym (watched_accepted (t) (accepted) (sym (normal) ∙ c.if-is_normal.true))
+    let normal : c.is_normal.result ≡ is_normal (body t) = c.is_normal.ensures ∙ normal-header 16383 (omega arith) t accepted in
+    sym (watched_accepted t accepted (sym normal ∙ c.if-is_normal.true))
 
 pub returns-in-Refused : goal.returns-in-Refused
 returns-in-Refused c = sym (table-refused _ _ (sym c.in-Refused.ensures))
@@ -34,5 +33,5 @@ pub returns-else-is_normal : goal.returns-else-is_normal
 returns-else-is_normal c =
     let t : List ℕ = c.args.table.now in
     let accepted : headed_checked true 16383 t ≡ Accepted = sym c.in-Accepted.ensures in
-    let normal : c.is_normal.result ≡ is_normal (body (t)) = let told = c in c.is_normal.ensures ∙ normal-header 16383 (omega arith) (t) (accepted) in
-    let told = c in sym (not_delta (t) (accepted) (sym (normal) ∙ c.if-is_normal.false))
+    let normal : c.is_normal.result ≡ is_normal (body t) = c.is_normal.ensures ∙ normal-header 16383 (omega arith) t accepted in
+    sym (not_delta t accepted (sym normal ∙ c.if-is_normal.false))
