@@ -14,7 +14,7 @@ use Rattle.nnf.proofs.plain_form.Goals as goal
 pub returns-then-not-permitted : goal.returns-then-not-permitted
 returns-then-not-permitted c =
     let a = c.args in
-    let r = outside a.limits a.table.now a.res.now (limits_outside a.limits _ c.permitted.ensures c.if-not-permitted.true) in
+    let r = outside a.limits a.table.now a.res.now (sym c.permitted.ensures ∙ c.if-not-permitted.true) in
     record { value = r.reply; res_after = r.slice }
 
 pub slice_bounds-answer-count : goal.slice_bounds-answer-count
