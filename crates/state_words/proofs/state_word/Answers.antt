@@ -19,4 +19,4 @@ pub returns-in-2 : goal.returns-in-2
 returns-in-2 c = c.pack.ensures ∙ accepting _ _ c.in-2.is
 
 pub returns-in_default : goal.returns-in_default
-returns-in_default c = c.pack-in_default.ensures ∙ other _ _ c.in_default.in_default-own.rest.1
+returns-in_default c = c.pack-in_default.ensures ∙ other c.args.number c.args.class (search rules)
