@@ -5,12 +5,10 @@ use native.Mathlib.Omega.{arith}
 use mathlib.Core.Path.{◌≡◌, refl, sym, ap, ap₂, subst, ◌∙◌}
 use mathlib.Core.Bool.{false}
 use mathlib.Core.List.{List, [], ◌∷◌, ◌++◌, map, map-append, foldl-append, append-nil, append_assoc}
-use mir.Syntax.{w32}
-use mir.Val.{Fits}
 use lib.Count.{ones}
 use lib.Dec.{eqb}
 use lib.Pow.{pow_pos}
-use Rattle.logic.specs.Formula.{Formula, const, disj}
+use Rattle.logic.specs.Formula.{const, disj}
 use Rattle.transforms.specs.Folding.{fold_binary}
 use Rattle.transforms.specs.NormalForm.{from, below, join_all, chosen_in, choices_of}
 use Rattle.normal_laws.proofs.Chosen.{keep_append}
@@ -108,9 +106,6 @@ module _ {k limit n c : ℕ} (counted : Counted k limit n c) where
   choice_less = omega (arith, counted.some)
 
   module _ (h : n ≤ k) where
-    pub count_fits : k < 32 → Fits w32 (n + 1)
-    count_fits l = omega arith
-
     pub counted-choice : (c - 1 ≡ 0 → ⊥) → Counted k limit n (c - 1)
     counted-choice z = record { some = omega arith; low = omega (arith, counted.low); few = counted.few; last = λ l. absurd (omega arith) }
 

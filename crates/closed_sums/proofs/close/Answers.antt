@@ -1,5 +1,4 @@
 use mathlib.Core.Path.{subst}
-use borrow.Author.Rules.{rules}
 use Rattle.sums.specs.Summed.{Summed}
 use Rattle.closed_sums.proofs.Closing.{close-nothing}
 use Rattle.closed_sums.proofs.close.Goals as goal

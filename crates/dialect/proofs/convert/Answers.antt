@@ -1,28 +1,17 @@
 -- The table is refused, or its words are converted.
-use borrow.Author.Rules.{rules}
-use native.Mathlib.Omega.{arith}
-use mathlib.Core.Path.{◌≡◌, sym, ◌∙◌}
-use mathlib.Core.Bool.{true}
-use Rattle.refusals.specs.declared.Outcome.TheVariants.{Accepted}
-use Rattle.table.specs.Header.{headed_checked}
+use mathlib.Core.Path.{sym}
 use Rattle.heading.proofs.Order.{some_word}
 use Rattle.dialect.proofs.Step.{words-accepted, refused, made}
 use Rattle.dialect.proofs.convert.Goals as goal
 
 pub slice_bounds-answer-count : goal.slice_bounds-answer-count
-slice_bounds-answer-count c =
-    let accepted : headed_checked true 16383 c.args.table.now ≡ Accepted = sym c.in-Accepted.ensures in
-    omega (arith, some_word _ _ _ (accepted))
+slice_bounds-answer-count c = some_word _ _ _ (sym c.in-Accepted.ensures)
 
 pub slice_bounds-answer-start : goal.slice_bounds-answer-start
-slice_bounds-answer-start c =
-    let accepted : headed_checked true 16383 c.args.table.now ≡ Accepted = sym c.in-Accepted.ensures in
-    omega (arith, some_word _ _ _ (accepted))
+slice_bounds-answer-start c = some_word _ _ _ (sym c.in-Accepted.ensures)
 
 pub answer-requires : goal.answer-requires
-answer-requires c =
-    let accepted : headed_checked true 16383 c.args.table.now ≡ Accepted = sym c.in-Accepted.ensures in
-    words-accepted _ (accepted)
+answer-requires c = words-accepted _ (sym c.in-Accepted.ensures)
 
 pub returns-in-Refused : goal.returns-in-Refused
 returns-in-Refused c =
@@ -31,6 +20,5 @@ returns-in-Refused c =
 
 pub returns-in-Accepted : goal.returns-in-Accepted
 returns-in-Accepted c =
-    let accepted : headed_checked true 16383 c.args.table.now ≡ Accepted = sym c.in-Accepted.ensures in
-    let r = made c.args.table.now c.args.res.now (accepted) c.answer.ensures in
+    let r = made c.args.table.now c.args.res.now (sym c.in-Accepted.ensures) c.answer.ensures in
     record { value = r.reply; res_after = r.slice }

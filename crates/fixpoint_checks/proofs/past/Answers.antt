@@ -5,7 +5,7 @@ use native.Mathlib.Omega.{arith}
 use borrow.Author.Rules.{rules}
 use Rattle.fixpoint_checks.proofs.Counting.{Counting, counting_none, counting_taken, counting_left, counting_past, counting_all}
 use Rattle.fixpoint_checks.proofs.past.Goals as goal
-use Rattle.fixpoint_checks.proofs.past.Goals.{then-is_fixpoint, else-is_fixpoint}
+use Rattle.fixpoint_checks.proofs.past.Goals.{then-is_fixpoint+else-found-limit, else-is_fixpoint}
 
 pub loop-i-init : goal.loop-i-init
 loop-i-init c = counting_none _ _
@@ -37,7 +37,7 @@ loop-i-smaller c = omega (arith, c.loop-i-test.true)
 pub loop-i-preserved : goal.loop-i-preserved
 loop-i-preserved c = 
     elim c.if-is_fixpoint.branch [
-      then-is_fixpoint w ↦ counting_taken c.loop-i.invariant c.loop-i-test.true c.is_fixpoint.ensures w.if-is_fixpoint.true w.if-found-limit.false w.found-is
+      then-is_fixpoint+else-found-limit w ↦ counting_taken c.loop-i.invariant c.loop-i-test.true c.is_fixpoint.ensures w.if-is_fixpoint.true w.if-found-limit.false w.found-is
     | else-is_fixpoint w ↦ counting_left c.loop-i.invariant c.loop-i-test.true c.is_fixpoint.ensures w.if-is_fixpoint.false w.found-is
     ]
 

@@ -1,5 +1,4 @@
 -- The answer in lent numbers is the reply's, and so are the tally and the scratch.
-use borrow.Author.Rules.{rules}
 use mathlib.Core.Path.{ap}
 use Rattle.judging.specs.declared.answer.Judged.{Judged}
 use Rattle.judge_calls.proofs.Replied.{judge_replied}

@@ -1,5 +1,4 @@
 -- The rows of what is accepted end at a small number, and the last of them is the rule's own.
-use borrow.Author.Rules.{rules}
 use mathlib.Core.Path.{refl, sym, ◌∙◌}
 use Rattle.judging.proofs.Accepted.{accepted-fillable, accepted-words}
 use Rattle.judging.proofs.LastRow.{words_before, last_small}

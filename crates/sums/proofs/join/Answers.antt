@@ -1,6 +1,5 @@
 use native.Mathlib.Omega.{arith}
 use mathlib.Core.Path.{refl, subst}
-use borrow.Author.Rules.{rules}
 use Rattle.sums.specs.Summed.{Small}
 use Rattle.sums.proofs.Growth.{placing_small, join-full, join-nothing, join_no_room, join_at, grown_as}
 use Rattle.sums.proofs.join.Goals as goal
