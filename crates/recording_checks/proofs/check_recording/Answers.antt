@@ -1,4 +1,6 @@
 -- The conditions in their order, each by its test.
+use Prim.Native.Nat.{◌≤◌, ◌<◌}
+use native.Mathlib.Omega.{arith}
 use borrow.Author.Tests.{eq-eqb, ne_eqb, lt-ltb, le-ltb, le-leb, lt-leb}
 use Rattle.table.specs.StepChecks.{driven_checks}
 use Rattle.judge_conditions.specs.Checks.{recording_checks}
@@ -18,8 +20,14 @@ returns-then-start-samples c = simp (ne_eqb _ _ c.if-samples-eq0.false, le-ltb _
 
 pub returns-then-driven-gt32 : goal.returns-then-driven-gt32
 unfolding recording_checks driven_checks
-returns-then-driven-gt32 c = simp (ne_eqb _ _ c.if-samples-eq0.false, le-ltb _ _ c.if-samples-gt4096.false, lt-leb _ _ c.if-start-samples.false, lt-ltb _ _ c.if-driven-gt32.true)
+returns-then-driven-gt32 c =
+    let inside : c.args.start < c.args.samples = omega arith in
+    let many : 32 < c.args.driven = omega arith in
+    simp (ne_eqb _ _ c.if-samples-eq0.false, le-ltb _ _ c.if-samples-gt4096.false, lt-leb _ _ inside, lt-ltb _ _ many)
 
 pub returns : goal.returns
 unfolding recording_checks driven_checks
-returns c = simp (ne_eqb _ _ c.if-samples-eq0.false, le-ltb _ _ c.if-samples-gt4096.false, lt-leb _ _ c.if-start-samples.false, le-ltb _ _ c.if-driven-gt32.false)
+returns c =
+    let inside : c.args.start < c.args.samples = omega arith in
+    let few : c.args.driven ≤ 32 = omega arith in
+    simp (ne_eqb _ _ c.if-samples-eq0.false, le-ltb _ _ c.if-samples-gt4096.false, lt-leb _ _ inside, le-ltb _ _ few)

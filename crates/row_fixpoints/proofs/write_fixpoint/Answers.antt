@@ -6,7 +6,6 @@ use Rattle.logic.specs.Truth.{sweep}
 use Rattle.row_words.specs.Row.{row}
 use Rattle.row_tests.proofs.Unswept.{full-row}
 use Rattle.settled_rows.proofs.Stepped.{settled-row}
-use borrow.Author.Rules.{rules}
 use Rattle.row_fixpoints.proofs.write_fixpoint.Goals as goal
 
 pub returns-then-everywhere : goal.returns-then-everywhere
