@@ -1,10 +1,8 @@
-use borrow.Author.Rules.{rules}
 use Prim.Native.Nat.{ℕ, ◌≤◌}
 use native.Mathlib.Omega.{arith}
 use mathlib.Core.Path.{◌≡◌, sym, subst, ◌∙◌}
 use mathlib.Core.Bool.{true}
 use mathlib.Core.List.{List}
-use lib.ListN.{length}
 use Rattle.refusals.specs.declared.Outcome.TheVariants.{Accepted}
 use Rattle.table.specs.declared.settings.Limits.{Limits}
 use Rattle.table.specs.Limits.{is_permitted, plain_limit}

@@ -1,3 +1,4 @@
+use Rattle.std.proofs.Common.{arith}
 use mathlib.Core.Path.{refl}
 use Rattle.headed_answers.proofs.Ends.{given_empty}
 use Rattle.rewritten_form.proofs.Ends.{form-finishable, form_given}
@@ -8,12 +9,12 @@ finish-requires c = record { within = λ z. absurd (z refl); words = λ z. absur
 
 pub returns-then-res-eq0 : goal.returns-then-res-eq0
 returns-then-res-eq0 c =
-    given_empty _ c.args.res.now c.if-res-eq0.true c.finish.ensures
+    given_empty _ c.args.res.now (omega arith) c.finish.ensures
 
 pub finish-requires-2 : goal.finish-requires-2
 finish-requires-2 c =
-    form-finishable c.requires c.args.res.now c.if-res-eq0.false c.form-n.auto.res c.form-n.ensures
+    form-finishable c.requires c.args.res.now (λ e. omega arith) c.form-n.auto.res c.form-n.ensures
 
 pub returns : goal.returns
 returns c =
-    form_given c.requires c.args.res.now c.if-res-eq0.false c.form-n.auto.res c.form-n.ensures c.finish-2.ensures
+    form_given c.requires c.args.res.now (λ e. omega arith) c.form-n.auto.res c.form-n.ensures c.finish-2.ensures
