@@ -1,5 +1,4 @@
 use native.Mathlib.Omega.{arith}
-use borrow.Author.Rules.{rules}
 use Rattle.form_rooms.specs.Rooms.{most_slots}
 use Rattle.form_rooms.proofs.Rooms.{formable, formed}
 use Rattle.form_rooms.proofs.large.Goals as goal

@@ -1,5 +1,4 @@
 use native.Mathlib.Omega.{arith}
-use borrow.Author.Rules.{rules}
 use Rattle.form_rooms.specs.Rooms.{middle_slots}
 use Rattle.form_rooms.proofs.Rooms.{formable, formed}
 use Rattle.form_rooms.proofs.middle.Goals as goal

@@ -1,5 +1,4 @@
 use native.Mathlib.Omega.{arith}
-use borrow.Author.Rules.{rules}
 use Rattle.form_rooms.specs.Rooms.{short_slots}
 use Rattle.form_rooms.proofs.Rooms.{formable, formed}
 use Rattle.form_rooms.proofs.small.Goals as goal

@@ -1,4 +1,3 @@
-use borrow.Author.Rules.{rules}
 use mathlib.Core.Path.{refl}
 use Rattle.headed_answers.proofs.Ends.{given_empty}
 use Rattle.rewritten_form.proofs.Ends.{form-finishable, form_given}

@@ -1,4 +1,3 @@
-use borrow.Author.Rules.{rules}
 use Rattle.rewritten_form.proofs.Ends.{past_refused, all_passed, given_made, given_refused}
 use Rattle.rewritten_form.proofs.rewrite.Goals as goal
 
