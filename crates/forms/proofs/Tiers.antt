@@ -1,26 +1,18 @@
 -- A form that is written to a part of a slice that is as long as the form can need.
-use Prim.Native.Nat.{ℕ, ◌+◌, ◌*◌, ◌≤◌, ◌<◌, min}
+use Prim.Native.Nat.{ℕ, min}
 use native.Mathlib.Omega.{arith}
 use mathlib.Core.Path.{◌≡◌, ap, ◌∙◌}
-use mathlib.Core.Bool.{true}
 use mathlib.Core.List.{List, ◌++◌}
 use lib.ListN.{length, take, drop}
 use Rattle.table.specs.Steps.{fixpoints, normal_table}
-use Rattle.table.proofs.Accepted.{accepted-well-formed}
 use Rattle.placing.specs.Written.{Written}
 use Rattle.placing.proofs.Written.{written_part}
-use Rattle.form_rooms.specs.Rooms.{positions_length, most_slots, Positioned, Sized}
+use Rattle.form_rooms.specs.Rooms.{Positioned}
 use Rattle.form_lengths.specs.Lengths.{most_words}
 use Rattle.normal_laws.proofs.Promise.{normal-length}
 
 -- with the positions of a table's until-like words
 module _ {t positions : List ℕ} {bits : ℕ} (q : Positioned t positions bits) where
-  pub few_words : length t < positions_length
-  few_words = omega (arith, q.table.short, (accepted-well-formed true _ _ q.table.accepted).few)
-
-  pub few_bits : bits < 32
-  few_bits = omega (arith, q.bits_are, q.table.few)
-
   -- a part of the slice that is as long as the form can need serves as the whole
   pub formed_part : (result : List ℕ) {e : List ℕ} {cap r : ℕ} → cap ≡ min (most_words (length t) bits) (length result)
       → Written (normal_table t) (take cap result) e r → Written (normal_table t) result (e ++ drop cap result) r
@@ -28,10 +20,3 @@ module _ {t positions : List ℕ} {bits : ℕ} (q : Positioned t positions bits)
       let k : cap ≡ min (most_words (length t) (length (fixpoints t))) (length result) = c ∙ ap (λ (b : ℕ). min (most_words (length t) b) (length result)) q.bits_are in
       let least : cap ≡ min (length result) (most_words (length t) (length (fixpoints t))) = omega arith in
       written_part (normal_table t) result (normal-length q.table.limit t q.table.accepted (omega (arith, q.table.short))) least f
-
-  -- what a room asks
-  pub sized : (slots words : ℕ) {out : List ℕ} → 5 * length t + 3 * bits + 5 ≤ slots → length out ≤ words → Positioned t positions bits × Sized t slots out words
-  sized slots words h l = (q, record { few_slots = omega (arith, q.bits_are); few_words = omega arith })
-
-  pub any-sized : {out : List ℕ} → Positioned t positions bits × Sized t most_slots out 16383
-  any-sized = (q, record { few_slots = q.table.drafted; few_words = omega arith })

@@ -2,7 +2,6 @@ use Prim.Native.Nat.{ℕ}
 use native.Mathlib.Omega.{arith}
 use mathlib.Core.Bool.{true}
 use lib.ListN.{length-replicate}
-use borrow.Author.Rules.{rules}
 use Rattle.table.proofs.Accepted.{accepted-well-formed}
 use Rattle.form_rooms.specs.Rooms.{positions_length}
 use Rattle.forms.proofs.form.Goals as goal
