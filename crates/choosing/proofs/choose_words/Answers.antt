@@ -57,8 +57,8 @@ loop-i-preserved c =
     let q = c.loop-i.invariant in
     let is = c.is_fixpoint.ensures in
     elim c.if-is_fixpoint.branch [
-      then-is_fixpoint x ↦ let w = rw add-one at x.choose_word.ensures in rw (x.draft-is, add-one) (h, w.long ∙ q.1, chosen_more q.2 h w (kept_bit _ f.kept h x.chosen-chosen.ensures))
-    | else-is_fixpoint x ↦ rw (x.draft-is, add-one) (h, q.1, chosen_other q.2 h (omega (arith, ((accepted-well-formed true _ _ f.room.accepted).word _ h).plain refl)) (sym is ∙ x.if-is_fixpoint.false))
+      | then-is_fixpoint x ↦ let w = rw add-one at x.choose_word.ensures in rw (x.draft-is, add-one) (h, w.long ∙ q.1, chosen_more q.2 h w (kept_bit _ f.kept h x.chosen-chosen.ensures))
+      | else-is_fixpoint x ↦ rw (x.draft-is, add-one) (h, q.1, chosen_other q.2 h (omega (arith, ((accepted-well-formed true _ _ f.room.accepted).word _ h).plain refl)) (sym is ∙ x.if-is_fixpoint.false))
     ]
 
 pub shape_of-draft : goal.shape_of-draft

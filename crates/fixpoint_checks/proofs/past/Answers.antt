@@ -35,10 +35,10 @@ pub loop-i-smaller : goal.loop-i-smaller
 loop-i-smaller c = omega (arith, c.loop-i-test.true)
 
 pub loop-i-preserved : goal.loop-i-preserved
-loop-i-preserved c = 
+loop-i-preserved c =
     elim c.if-is_fixpoint.branch [
-      then-is_fixpoint+else-found-limit w ↦ counting_taken c.loop-i.invariant c.loop-i-test.true c.is_fixpoint.ensures w.if-is_fixpoint.true w.if-found-limit.false w.found-is
-    | else-is_fixpoint w ↦ counting_left c.loop-i.invariant c.loop-i-test.true c.is_fixpoint.ensures w.if-is_fixpoint.false w.found-is
+      | then-is_fixpoint+else-found-limit w ↦ counting_taken c.loop-i.invariant c.loop-i-test.true c.is_fixpoint.ensures w.if-is_fixpoint.true w.if-found-limit.false w.found-is
+      | else-is_fixpoint w ↦ counting_left c.loop-i.invariant c.loop-i-test.true c.is_fixpoint.ensures w.if-is_fixpoint.false w.found-is
     ]
 
 pub returns : goal.returns

@@ -29,8 +29,8 @@ returns-in_default-2 c = let rest = c.in_default.in_default-own.rest in absurd (
 pub returns-in-5-to-11 : goal.returns-in-5-to-11
 returns-in-5-to-11 c =
     let at : ((c.kind-kind.result ≡ 8) ⊎ (c.kind-kind.result ≡ 11)) ⊎ ((5 ≤ c.kind-kind.result) × (c.kind-kind.result < 7)) =
-        elim c.in-5-to-11-1.branch [
-          in-8-1 w ↦ inl w.in-8-1.keys4
-        | in_default+else-kind-lt1+else-kind-lt3+else-kind-lt5+then-kind-lt7 w ↦ inr (omega arith, omega arith)
-        ] in
+    elim c.in-5-to-11-1.branch [
+      | in-8-1 w ↦ inl w.in-8-1.keys4
+      | in_default+else-kind-lt1+else-kind-lt3+else-kind-lt5+then-kind-lt7 w ↦ inr (omega arith, omega arith)
+    ] in
     opens_kept c.kind-kind.ensures (others at) c.operator.ensures
