@@ -1,10 +1,12 @@
 // A draft of the size that the table can need, filled and numbered: short tables pay for no more.
+// A room is never inlined, so that the arrays of the larger ones stay out of the frame of a short call.
 #![tactic(auto)]
 
 ghost use Rattle.placing.specs.Written.{Written};
 ghost use Rattle.table.specs.Steps.{dialect_table};
 ghost use Rattle.dialect_rooms.specs.Rooms.{Asked};
 
+#[inline(never)]
 pub fn of_64(table: &[u32], res: &mut [u32]) -> usize
     requires { Asked 64 table.now res.old }
     ensures { Written (dialect_table table.now) res.old res.new result }
@@ -14,6 +16,7 @@ pub fn of_64(table: &[u32], res: &mut [u32]) -> usize
     number_rooms::of_195(&draft, 2 * table.len() + 1, res)
 }
 
+#[inline(never)]
 pub fn of_512(table: &[u32], res: &mut [u32]) -> usize
     requires { Asked 512 table.now res.old }
     ensures { Written (dialect_table table.now) res.old res.new result }
@@ -23,6 +26,7 @@ pub fn of_512(table: &[u32], res: &mut [u32]) -> usize
     number_rooms::of_1539(&draft, 2 * table.len() + 1, res)
 }
 
+#[inline(never)]
 pub fn of_16383(table: &[u32], res: &mut [u32]) -> usize
     requires { Asked 16383 table.now res.old }
     ensures { Written (dialect_table table.now) res.old res.new result }

@@ -1,4 +1,5 @@
 // Drafts, numbers, a stack and an index of the size that a form can need: short rules pay for no more.
+// A room is never inlined, so that the arrays of the larger ones stay out of the frame of a short call.
 #![tactic(auto)]
 
 ghost use Rattle.table.specs.Steps.{normal_table};
@@ -13,6 +14,7 @@ pub const MIDDLE_SLOTS: usize = 1024;
 const SLOTS: usize = 2605;
 
 // A short rule's form.
+#[inline(never)]
 pub fn small(table: &[u32], positions: &[u8], bits: u32, out: &mut [u32]) -> usize
     requires { Positioned table.now positions.now bits × Sized table.now short_slots out.old 1023 }
     ensures { Written (normal_table table.now) out.old out.new result }
@@ -36,6 +38,7 @@ pub fn small(table: &[u32], positions: &[u8], bits: u32, out: &mut [u32]) -> usi
 }
 
 // A form of at most as many words as a desk's program has room for.
+#[inline(never)]
 pub fn middle(table: &[u32], positions: &[u8], bits: u32, out: &mut [u32]) -> usize
     requires { Positioned table.now positions.now bits × Sized table.now middle_slots out.old 4096 }
     ensures { Written (normal_table table.now) out.old out.new result }
@@ -59,6 +62,7 @@ pub fn middle(table: &[u32], positions: &[u8], bits: u32, out: &mut [u32]) -> us
 }
 
 // Any form.
+#[inline(never)]
 pub fn large(table: &[u32], positions: &[u8], bits: u32, out: &mut [u32]) -> usize
     requires { Positioned table.now positions.now bits × Sized table.now most_slots out.old 16383 }
     ensures { Written (normal_table table.now) out.old out.new result }
