@@ -48,10 +48,10 @@ returns-then-is_normal c =
     record { value = q.reply; res_after = q.slice }
 
 pub slice_bounds-rewrite-count : goal.slice_bounds-rewrite-count
-slice_bounds-rewrite-count c = some_word true (plain_limit c.args.limits) c.args.table.now (sym c.in-Accepted.ensures)
+slice_bounds-rewrite-count c = omega (arith, some_word true (plain_limit c.args.limits) c.args.table.now (sym c.in-Accepted.ensures))
 
 pub slice_bounds-rewrite-start : goal.slice_bounds-rewrite-start
-slice_bounds-rewrite-start c = some_word true (plain_limit c.args.limits) c.args.table.now (sym c.in-Accepted.ensures)
+slice_bounds-rewrite-start c = omega (arith, some_word true (plain_limit c.args.limits) c.args.table.now (sym c.in-Accepted.ensures))
 
 pub rewrite-requires : goal.rewrite-requires
 rewrite-requires c =
