@@ -5,10 +5,9 @@ use mathlib.Core.Bool.{true}
 use mathlib.Core.List.{List}
 use lib.ListN.{length, take}
 use Rattle.refusals.specs.declared.Refusal.{Refusal}
-use Rattle.refusals.specs.declared.Outcome.TheVariants as outcome
+use Rattle.std.specs.Prelude.{Ok, Err}
 use Rattle.refusals.specs.Refusals.{first}
-use Rattle.table.specs.declared.answer.Answer.{Answer}
-use Rattle.table.specs.declared.answer.Answer.TheVariants.{Refused}
+use Rattle.table.specs.Answers.{Answer}
 use Rattle.table.specs.Frame.{after_step}
 use Rattle.table.proofs.AfterStep.{after_early, both_accepted}
 use Rattle.table.specs.Checks.{checked}
@@ -22,18 +21,18 @@ use Rattle.headed_answers.proofs.Ends.{given_ends}
 use Rattle.heading.proofs.Order.{whole_body, some_word}
 
 module _ (v driven : ℕ) (s result : List ℕ) where
-  pub refused : (r : Refusal) → first ((after_step v driven).checks s) ≡ outcome.Refused r → Ends (after_step v driven) s result (Refused r) result
+  pub refused : (r : Refusal) → first ((after_step v driven).checks s) ≡ Err r → Ends (after_step v driven) s result (Err r) result
   refused r e = writing.ends-refused (after_step v driven) s result (after_early v driven) r e
 
-  module _ (ok : first ((after_step v driven).checks s) ≡ outcome.Accepted) where
-    table-accepted : headed_checked true 16383 s ≡ outcome.Accepted
+  module _ (ok : first ((after_step v driven).checks s) ≡ Ok tt) where
+    table-accepted : headed_checked true 16383 s ≡ Ok tt
     table-accepted = (both_accepted v driven s ok).0
 
     -- there is a header, and the part after it is accepted
     pub some : 1 ≤ length s
     some = some_word true 16383 s table-accepted
 
-    pub words-accepted : checked true 16383 (take (length s - 1) (body s)) ≡ outcome.Accepted
+    pub words-accepted : checked true 16383 (take (length s - 1) (body s)) ≡ Ok tt
     words-accepted = rw (whole_body s) (accepted-headed true 16383 s table-accepted).words
 
     pub made : {e : List ℕ} {r : Answer} → Given (headed (after_table v (take (length s - 1) (body s)))) result e r → Ends (after_step v driven) s result r e

@@ -6,16 +6,13 @@ ghost use Rattle.table.specs.Frame.{after_step, answer_of, result_of};
 
 use after_answers::answer;
 use after_checks::check;
-use refusals::Outcome;
-use table::answer::Answer;
+use refusals::Refusal;
 
 // The table's length, or why there is none.
-pub fn step(table: &[u32], sample: u32, driven: usize, res: &mut [u32]) -> Answer
+pub fn step(table: &[u32], sample: u32, driven: usize, res: &mut [u32]) -> Result<usize, Refusal>
     ensures value { result ≡ answer_of (after_step sample driven) table.now (length res.old) }
     ensures res_after { res.new ≡ result_of (after_step sample driven) table.now res.old }
 {
-    match check(table, driven) {
-        Outcome::Refused(r) => Answer::Refused(r),
-        Outcome::Accepted => answer(&table[1..], sample, res),
-    }
+    check(table, driven)?;
+    answer(&table[1..], sample, res)
 }

@@ -3,7 +3,7 @@ use Rattle.std.specs.Prelude.{ℕ, ◌+◌, ◌*◌, ◌<◌, ◌≤◌, ◌≡�
 use Rattle.logic.specs.Formula.{Formula}
 use Rattle.transforms.specs.Folding.{fold}
 use Rattle.transforms.specs.After.{after}
-use Rattle.refusals.specs.declared.Outcome.TheVariants.{Accepted}
+use Rattle.std.specs.Prelude.{Ok}
 use Rattle.table.specs.Table.{formulas, formula_of}
 use Rattle.table.specs.Checks.{checked}
 use Rattle.drafts.specs.Drafted.{Drafted}
@@ -15,7 +15,7 @@ word_of t j = formula_of (formulas t) j
 
 -- an accepted table, and a draft with slots for its words
 pub record Room (t d : List ℕ) : Type 0 where
-  pub accepted : checked true 16383 t ≡ Accepted
+  pub accepted : checked true 16383 t ≡ Ok tt
   pub slots : 3 * length t + 3 ≤ length d
   pub few : length d ≤ 1048576
 

@@ -32,9 +32,7 @@ pub fn fill(table: &[u32], sample: u32, draft: &mut [u64])
     requires { Room table.now draft.old }
     ensures { Filled sample table.now draft.new (length table.now) }
 {
-    let mut j = 0;
-    while j < table.len() {
-        j += 1;
+    for j in 1..=table.len() {
         step_word(table, sample, &mut *draft, j);
     }
 }

@@ -13,10 +13,9 @@ use Rattle.logic.specs.Driven.{SameBits}
 use Rattle.logic.specs.Semantics.{Holds}
 use Rattle.refusals.specs.declared.Refusal.{Refusal}
 use Rattle.refusals.specs.declared.Refusal.TheVariants.{ResultTooShort}
-use Rattle.refusals.specs.declared.Outcome.{Outcome}
-use Rattle.refusals.specs.declared.Outcome.TheVariants as outcome
+use Rattle.refusals.specs.Refusals.{Outcome}
+use Rattle.std.specs.Prelude.{Ok, Err}
 use Rattle.refusals.specs.Refusals.{first}
-use Rattle.table.specs.declared.answer.Answer.TheVariants.{Refused}
 use Rattle.table.specs.Table.{rule}
 use Rattle.table.specs.Header.{body}
 use Rattle.table.specs.StepChecks.{result_fits}
@@ -48,16 +47,16 @@ pub run-shown : {driven : ℕ} {vs s u : List ℕ} → Run driven vs s u → (σ
 run-shown r σ i f = run_holds r σ i (λ k h n d. ap (λ (v : ℕ). letter_in v n) (f k h))
 
 -- the checks before 12 pass what a step left, whatever the next sample is
-pub run-accepted : {driven v : ℕ} {vs s u : List ℕ} → Run driven (v ∷ vs) s u → (w : ℕ) → first ((after_step w driven).checks u) ≡ outcome.Accepted
+pub run-accepted : {driven v : ℕ} {vs s u : List ℕ} → Run driven (v ∷ vs) s u → (w : ℕ) → first ((after_step w driven).checks u) ≡ Ok tt
 run-accepted {driven} {u = u} (step q none) w = let r = step_remaining q in table-accepted w driven u r.accepted ∙ r.sampled
 run-accepted (step q (step p r)) w = run-accepted (step p r) w
 
 -- so a later step is refused for length alone
 pub run-refused : {driven v : ℕ} {vs s u : List ℕ} → Run driven (v ∷ vs) s u → (w : ℕ) (slice : List ℕ) (r : Refusal)
-    → answer_of (after_step w driven) u (length slice) ≡ Refused r → r ≡ ResultTooShort
+    → answer_of (after_step w driven) u (length slice) ≡ Err r → r ≡ ResultTooShort
 run-refused {driven} {u = u} run w slice r e = by_fit (result_fits (length ((after_step w driven).makes u)) (length slice)) refl
   where
-    ok : first ((after_step w driven).checks u) ≡ outcome.Accepted
+    ok : first ((after_step w driven).checks u) ≡ Ok tt
     ok = run-accepted run w
 
     by_fit : (b : Bool) → result_fits (length ((after_step w driven).makes u)) (length slice) ≡ b → r ≡ ResultTooShort
@@ -71,16 +70,16 @@ module _ (driven v w : ℕ) (e : SameBits driven v w) (s slice : List ℕ) where
   same_answer = go (first ((after_step v driven).checks s)) refl
     where
       go : (o : Outcome) → first ((after_step v driven).checks s) ≡ o → answer_of (after_step v driven) s (length slice) ≡ answer_of (after_step w driven) s (length slice)
-      go outcome.Accepted h = rw (same_table v driven s h w e)
-      go (outcome.Refused r) h = refused-answer (after_step v driven) s slice r h ∙ sym (refused-answer (after_step w driven) s slice r h)
+      go (Ok tt) h = rw (same_table v driven s h w e)
+      go (Err r) h = refused-answer (after_step v driven) s slice r h ∙ sym (refused-answer (after_step w driven) s slice r h)
 
   pub same_result : result_of (after_step v driven) s slice ≡ result_of (after_step w driven) s slice
   unfolding result_of outcome_of
   same_result = go (first ((after_step v driven).checks s)) refl
     where
       go : (o : Outcome) → first ((after_step v driven).checks s) ≡ o → result_of (after_step v driven) s slice ≡ result_of (after_step w driven) s slice
-      go outcome.Accepted h = rw (same_table v driven s h w e)
-      go (outcome.Refused r) h =
+      go (Ok tt) h = rw (same_table v driven s h w e)
+      go (Err r) h =
           refused-result (after_step v driven) s slice (after_early v driven) r h ∙ sym (refused-result (after_step w driven) s slice (after_early w driven) r h)
 
 -- too long a remainder is 12, and leaves every word of the slice 0; the table that is followed is lent for reading

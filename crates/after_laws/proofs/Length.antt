@@ -8,7 +8,7 @@ use mathlib.Core.List.{List}
 use lib.ListN.{length, length-set, replicate, length-replicate}
 use Rattle.transforms.specs.Folding.{fold}
 use Rattle.transforms.specs.After.{after}
-use Rattle.refusals.specs.declared.Outcome.TheVariants.{Accepted}
+use Rattle.std.specs.Prelude.{Ok}
 use Rattle.table.specs.Table.{rule}
 use Rattle.table.specs.Checks.{checked}
 use Rattle.table.specs.Steps.{after_table}
@@ -55,7 +55,7 @@ word-filling {v} {t} {d} {j} {k} {l} {r} q w = go (dec_lt k 3) (dec_lt k 5) (dec
     go (no a) (no b) (no c) (no e) (yes f) = (fixpoint_slots d j k 5 6 l r, three _ _ _ _ _ _, fixpoint-filled q w (until_at k (omega arith) f))
     go (no a) (no b) (no c) (no e) (no f) = (fixpoint_slots d j k 6 5 l r, three _ _ _ _ _ _, fixpoint-filled q w (release_at k (omega arith) (plain_at q w)))
 
-module _ (v : ℕ) (t : List ℕ) (ok : checked true 16383 t ≡ Accepted) where
+module _ (v : ℕ) (t : List ℕ) (ok : checked true 16383 t ≡ Ok tt) where
   words-filling : (d : List ℕ) → Room t d → (n : ℕ) → n ≤ length t → Filling v t d n
   words-filling d q zero h = (d, refl, none_filled v t d)
   words-filling d q (suc n) h =

@@ -17,9 +17,8 @@ use Rattle.transforms.specs.Folding.{fold}
 use Rattle.transforms.specs.After.{after}
 use Rattle.transforms.proofs.Folding.{fold-holds, fold-letters, fold-plain}
 use Rattle.transforms.proofs.After.{after_holds, after_letters, after_same, after_plain}
-use Rattle.refusals.specs.declared.Outcome.TheVariants.{Accepted}
+use Rattle.std.specs.Prelude.{Ok}
 use Rattle.refusals.specs.Refusals.{first}
-use Rattle.table.specs.declared.answer.Answer.TheVariants.{Made}
 use Rattle.table.specs.Table.{rule}
 use Rattle.table.specs.Checks.{checked}
 use Rattle.table.specs.Header.{headed, body}
@@ -38,7 +37,7 @@ use Rattle.after_laws.specs.Remaining.{Remaining}
 use Rattle.after_laws.proofs.Length.{after_short}
 
 -- the words that are left of accepted words
-module _ (v : ℕ) (t : List ℕ) (ok : checked true 16383 t ≡ Accepted) where
+module _ (v : ℕ) (t : List ℕ) (ok : checked true 16383 t ≡ Ok tt) where
   table : WellFormed true 16383 t
   table = accepted-well-formed true 16383 t ok
 
@@ -52,7 +51,7 @@ module _ (v : ℕ) (t : List ℕ) (ok : checked true 16383 t ≡ Accepted) where
 
   -- the numbers of its words fit their fields
   module _ (few : length (after_table v t) ≤ 16383) where
-    pub after_accepted : checked true 16383 (after_table v t) ≡ Accepted
+    pub after_accepted : checked true 16383 (after_table v t) ≡ Ok tt
     unfolding after_table
     after_accepted = accepted-table_of true 16383 (fold (after v (rule t))) left_plain few (omega arith)
 
@@ -61,8 +60,8 @@ module _ (v : ℕ) (t : List ℕ) (ok : checked true 16383 t ≡ Accepted) where
     after_rule = rule-table_of (fold (after v (rule t))) (plain_small (fold (after v (rule t))) left_plain.1) (omega arith)
 
 -- the table that is made of one that the step accepts
-module _ (v driven : ℕ) (s : List ℕ) (ok : first ((after_step v driven).checks s) ≡ Accepted) where
-  given : checked true 16383 (body s) ≡ Accepted
+module _ (v driven : ℕ) (s : List ℕ) (ok : first ((after_step v driven).checks s) ≡ Ok tt) where
+  given : checked true 16383 (body s) ≡ Ok tt
   given = (accepted-headed true 16383 s (both_accepted v driven s ok).0).words
 
   -- the letters of its rule are driven
@@ -101,12 +100,12 @@ module _ (v driven : ℕ) (s : List ℕ) (ok : first ((after_step v driven).chec
 
   -- at most 5,460 words are always stepped in a slice of three words for each of them, three more, and the header
   pub after_answered : (slice : List ℕ) → length (body s) ≤ 5460 → 3 * length (body s) + 4 ≤ length slice
-      → answer_of (after_step v driven) s (length slice) ≡ Made (suc (length (after_table v (body s))))
+      → answer_of (after_step v driven) s (length slice) ≡ Ok (suc (length (after_table v (body s))))
   after_answered slice h l =
       made_answer (after_step v driven) s slice ok (le-leb (suc (length (after_table v (body s)))) (min (length slice) 16384) (omega (arith, after_short v (body s) given)))
 
 -- of every answered call: the header and the words at the front of the slice
-pub made_remaining : (v driven : ℕ) (s slice : List ℕ) (n : ℕ) → answer_of (after_step v driven) s (length slice) ≡ Made n
+pub made_remaining : (v driven : ℕ) (s slice : List ℕ) (n : ℕ) → answer_of (after_step v driven) s (length slice) ≡ Ok n
     → Remaining v driven s (take n (result_of (after_step v driven) s slice))
 made_remaining v driven s slice n made =
     let a = answered (after_step v driven) s slice n made in

@@ -2,14 +2,14 @@
 use Rattle.std.specs.Prelude.{ℕ, ◌+◌, ◌<◌, ◌≡◌, List, [], ◌∷◌, length, get_or, take}
 use Rattle.logic.specs.Lasso.{Word}
 use Rattle.logic.specs.Driven.{SameBits}
-use Rattle.table.specs.declared.answer.Answer.TheVariants.{Made}
+use Rattle.std.specs.Prelude.{Ok}
 use Rattle.table.specs.Frame.{after_step, answer_of, result_of}
 
 -- one step: in some slice n words were made of s, and u is these
 pub record Step (v driven : ℕ) (s u : List ℕ) : Type 0 where
   pub slice : List ℕ
   pub number : ℕ
-  pub made : answer_of (after_step v driven) s (length slice) ≡ Made number
+  pub made : answer_of (after_step v driven) s (length slice) ≡ Ok number
   pub front : u ≡ take number (result_of (after_step v driven) s slice)
 
 -- a step for each sample, from s to u

@@ -4,4 +4,3 @@ pub mod Window
 pub mod Reading
 pub mod Telling
 pub mod Promise
-pub mod Replied

@@ -11,8 +11,8 @@ use lib.ListN.{length}
 use lib.Dec.{eqb}
 use borrow.Author.Tests.{eqb-true, not-false, ltb-false, leb-false}
 use Rattle.refusals.specs.declared.Refusal.{Refusal}
-use Rattle.refusals.specs.declared.Outcome.{Outcome}
-use Rattle.refusals.specs.declared.Outcome.TheVariants.{Accepted, Refused}
+use Rattle.refusals.specs.Refusals.{Outcome}
+use Rattle.std.specs.Prelude.{None, Some, Ok, Err}
 use Rattle.refusals.specs.Refusals.{first}
 use Rattle.refusals.proofs.First.{first_passed, first_append_both}
 use Rattle.logic.specs.Formula.{Formula}
@@ -24,10 +24,7 @@ use Rattle.logic.proofs.Lasso.Period.{period, word-periodic, lasso_inside}
 use Rattle.logic.proofs.Lasso.Driven.{agree-holds}
 use Rattle.table.specs.StepChecks.{driven_checks}
 use Rattle.judge_conditions.specs.Checks.{recording_checks}
-use Rattle.agreement.specs.declared.answer.Comparison.{Comparison}
-use Rattle.agreement.specs.declared.answer.Comparison.TheVariants.{Same, Differ}
-use Rattle.agreement.specs.declared.answer.Comparison.TheVariants.{Refused as NotCompared}
-use Rattle.agreement.specs.Comparing.{count_checks, comparison_checks, alike, difference_in, window, compared, compared_by, comparison}
+use Rattle.agreement.specs.Comparing.{Comparison, count_checks, comparison_checks, alike, difference_in, window, compared, compared_by, comparison}
 use Rattle.agreement.specs.Difference.{Says}
 use Rattle.agreement.specs.Telling.{TellsApart}
 use Rattle.agreement.proofs.Bits.{alike-bits, unlike_bit}
@@ -36,26 +33,26 @@ use Rattle.agreement.proofs.Telling.{told-apart}
 
 -- what a search through the n positions from i on says
 abbrev Found : ℕ → Word → Word → ℕ → ℕ → Comparison → Type 0
-Found k σ τ i n Same = (j : ℕ) → i ≤ j → j < i + n → alike k (σ j) (τ j) ≡ true
-Found k σ τ i n (Differ m) = ((j : ℕ) → i ≤ j → j < m → alike k (σ j) (τ j) ≡ true) × (i ≤ m) × (alike k (σ m) (τ m) ≡ false)
-Found k σ τ i n (NotCompared why) = ⊥
+Found k σ τ i n (Ok None) = (j : ℕ) → i ≤ j → j < i + n → alike k (σ j) (τ j) ≡ true
+Found k σ τ i n (Ok (Some m)) = ((j : ℕ) → i ≤ j → j < m → alike k (σ j) (τ j) ≡ true) × (i ≤ m) × (alike k (σ m) (τ m) ≡ false)
+Found k σ τ i n (Err why) = ⊥
 
 module _ (k : ℕ) (σ τ : Word) where
   after_same : (i n : ℕ) → alike k (σ i) (τ i) ≡ true → (c : Comparison) → Found k σ τ (suc i) n c → Found k σ τ i (suc n) c
-  after_same i n e Same h = λ j a b. elim (eq-or-lt_of_le a) [ inl q ↦ subst (λ (x : ℕ). alike k (σ x) (τ x) ≡ true) q e | inr l ↦ h j l (omega arith) ]
-  after_same i n e (Differ m) h = (
+  after_same i n e (Ok None) h = λ j a b. elim (eq-or-lt_of_le a) [ inl q ↦ subst (λ (x : ℕ). alike k (σ x) (τ x) ≡ true) q e | inr l ↦ h j l (omega arith) ]
+  after_same i n e (Ok (Some m)) h = (
     λ j a b. elim (eq-or-lt_of_le a) [ inl q ↦ subst (λ (x : ℕ). alike k (σ x) (τ x) ≡ true) q e | inr l ↦ h.0 j l b ],
     omega (arith, h.1),
     h.2,
   )
-  after_same i n e (NotCompared why) h = h
+  after_same i n e (Err why) h = h
 
   found : (i n : ℕ) → Found k σ τ i n (difference_in k σ τ i n)
   unfolding difference_in
   found i zero = λ j a b. absurd (omega arith)
   found i (suc n) = go (alike k (σ i) (τ i)) (found (suc i) n) refl
     where
-      go : (b : Bool) → Found k σ τ (suc i) n (difference_in k σ τ (suc i) n) → alike k (σ i) (τ i) ≡ b → Found k σ τ i (suc n) (cond b (difference_in k σ τ (suc i) n) (Differ i))
+      go : (b : Bool) → Found k σ τ (suc i) n (difference_in k σ τ (suc i) n) → alike k (σ i) (τ i) ≡ b → Found k σ τ i (suc n) (cond b (difference_in k σ τ (suc i) n) (Ok (Some i)))
       go true f e = after_same i n e (difference_in k σ τ (suc i) n) f
       go false f e = (λ j a b. absurd (omega arith), omega arith, e)
 
@@ -76,8 +73,8 @@ module _ (r r' : Lasso) (counts : r.driven ≡ r'.driven) where
   }
 
   says_by : (c : Comparison) → Found r.driven (word r) (word r') 0 looked c → Says r r' c
-  says_by Same h = agree (λ j l. h j (omega arith) (omega arith))
-  says_by (Differ m) h =
+  says_by (Ok None) h = agree (λ j l. h j (omega arith) (omega arith))
+  says_by (Ok (Some m)) h =
       let u = unlike_bit (word r m) (word r' m) r.driven h.2 in
       record {
         before = λ i n l d. alike-bits (word r i) (word r' i) r.driven (h.0 i (omega arith) l) n d;
@@ -85,7 +82,7 @@ module _ (r r' : Lasso) (counts : r.driven ≡ r'.driven) where
         driven = u.1;
         there = u.2;
       }
-  says_by (NotCompared why) h = h
+  says_by (Err why) h = h
 
   -- the answer says what is so
   pub compared_says : Says r r' (compared r r')
@@ -94,29 +91,29 @@ module _ (r r' : Lasso) (counts : r.driven ≡ r'.driven) where
 
   -- and nothing else is so
   pub says_once : (c d : Comparison) → Says r r' c → Says r r' d → c ≡ d
-  says_once Same Same a b = refl
-  says_once Same (Differ m) a b = absurd (b.there (a.bits m b.letter b.driven))
-  says_once (Differ m) Same a b = absurd (a.there (b.bits m a.letter a.driven))
-  says_once (Differ m) (Differ m') a b =
+  says_once (Ok None) (Ok None) a b = refl
+  says_once (Ok None) (Ok (Some m)) a b = absurd (b.there (a.bits m b.letter b.driven))
+  says_once (Ok (Some m)) (Ok None) a b = absurd (a.there (b.bits m a.letter a.driven))
+  says_once (Ok (Some m)) (Ok (Some m')) a b =
       elim (lt_or_le m m') [
         | inl l ↦ absurd (a.there (b.before m a.letter l a.driven))
-        | inr l ↦ elim (eq-or-lt_of_le l) [ inl e ↦ ap Differ (sym e) | inr l' ↦ absurd (b.there (a.before m' b.letter l' b.driven)) ]
+        | inr l ↦ elim (eq-or-lt_of_le l) [ inl e ↦ ap (λ (k : ℕ). Ok (Some k)) (sym e) | inr l' ↦ absurd (b.there (a.before m' b.letter l' b.driven)) ]
       ]
-  says_once (NotCompared why) d a b = absurd a
-  says_once Same (NotCompared why) a b = absurd b
-  says_once (Differ m) (NotCompared why) a b = absurd b
+  says_once (Err why) d a b = absurd a
+  says_once (Ok None) (Err why) a b = absurd b
+  says_once (Ok (Some m)) (Err why) a b = absurd b
 
   -- same exactly where they agree for ever, and differing from m on exactly where m is the first position that differs
   pub says_exactly : (c : Comparison) → (compared r r' ≡ c) ↔ Says r r' c
   says_exactly c = (λ e. subst (Says r r') e compared_says, λ s. says_once (compared r r') c compared_says s)
 
   -- the same: every rule of driven letters holds at each position of both, or of neither
-  pub same_holds : compared r r' ≡ Same → (φ : Formula) → Drives r φ → (i : ℕ) → Holds (word r) φ i ↔ Holds (word r') φ i
-  same_holds e φ d i = agree-holds ((says_exactly Same).0 e) φ d i
+  pub same_holds : compared r r' ≡ Ok None → (φ : Formula) → Drives r φ → (i : ℕ) → Holds (word r) φ i ↔ Holds (word r') φ i
+  same_holds e φ d i = agree-holds ((says_exactly (Ok None)).0 e) φ d i
 
   -- not the same: some rule of driven letters and X holds at position 0 of the first, and not of the second
-  pub differ-told : (m : ℕ) → compared r r' ≡ Differ m → (φ : Formula) × TellsApart r r' φ
-  differ-told m e = (_, told-apart counts ((says_exactly (Differ m)).0 e))
+  pub differ-told : (m : ℕ) → compared r r' ≡ Ok (Some m) → (φ : Formula) × TellsApart r r' φ
+  differ-told m e = (_, told-apart counts ((says_exactly (Ok (Some m))).0 e))
 
 -- recordings that a comparison accepts
 pub record Comparable (samples : List ℕ) (start driven : ℕ) (samples' : List ℕ) (start' driven' : ℕ) : Type 0 where
@@ -128,7 +125,7 @@ pub record Comparable (samples : List ℕ) (start driven : ℕ) (samples' : List
   pub counts : driven ≡ driven'
 
 module _ (samples : List ℕ) (start driven : ℕ) (samples' : List ℕ) (start' driven' : ℕ) where
-  pub comparable : first (comparison_checks (length samples) start driven (length samples') start' driven') ≡ Accepted
+  pub comparable : first (comparison_checks (length samples) start driven (length samples') start' driven') ≡ Ok tt
       → Comparable samples start driven samples' start' driven'
   unfolding comparison_checks recording_checks driven_checks count_checks
   comparable e =
@@ -147,12 +144,12 @@ module _ (samples : List ℕ) (start driven : ℕ) (samples' : List ℕ) (start'
       }
 
   -- of any samples and numbers: refused by the first check that applies, or else the answer says what is so of the two recordings
-  pub refused : (why : Refusal) → first (comparison_checks (length samples) start driven (length samples') start' driven') ≡ Refused why
-      → comparison samples start driven samples' start' driven' ≡ NotCompared why
+  pub refused : (why : Refusal) → first (comparison_checks (length samples) start driven (length samples') start' driven') ≡ Err why
+      → comparison samples start driven samples' start' driven' ≡ Err why
   unfolding comparison compared_by
   refused why e = ap (λ (o : Outcome). compared_by o (lasso_of samples start driven) (lasso_of samples' start' driven')) e
 
-  module _ (e : first (comparison_checks (length samples) start driven (length samples') start' driven') ≡ Accepted) where
+  module _ (e : first (comparison_checks (length samples) start driven (length samples') start' driven') ≡ Ok tt) where
     pub accepted : comparison samples start driven samples' start' driven' ≡ compared (lasso_of samples start driven) (lasso_of samples' start' driven')
     unfolding comparison compared_by
     accepted = ap (λ (o : Outcome). compared_by o (lasso_of samples start driven) (lasso_of samples' start' driven')) e
@@ -168,11 +165,11 @@ module _ (samples : List ℕ) (start driven : ℕ) (samples' : List ℕ) (start'
     says c = (λ q. (says_exactly _ _ same_counts c).0 (sym accepted ∙ q), λ s. accepted ∙ (says_exactly _ _ same_counts c).1 s)
 
     -- the same: every rule of driven letters holds at each moment of both, or of neither
-    pub rules-alike : comparison samples start driven samples' start' driven' ≡ Same → (φ : Formula) → Drives (lasso_of samples start driven) φ
+    pub rules-alike : comparison samples start driven samples' start' driven' ≡ Ok None → (φ : Formula) → Drives (lasso_of samples start driven) φ
         → (i : ℕ) → Holds (word (lasso_of samples start driven)) φ i ↔ Holds (word (lasso_of samples' start' driven')) φ i
     rules-alike q = same_holds _ _ same_counts (sym accepted ∙ q)
 
     -- not the same: some rule of driven letters and X tells them apart
-    pub rule-tells : (m : ℕ) → comparison samples start driven samples' start' driven' ≡ Differ m
+    pub rule-tells : (m : ℕ) → comparison samples start driven samples' start' driven' ≡ Ok (Some m)
         → (φ : Formula) × TellsApart (lasso_of samples start driven) (lasso_of samples' start' driven') φ
     rule-tells m q = differ-told _ _ same_counts m (sym accepted ∙ q)

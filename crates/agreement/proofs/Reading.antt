@@ -11,7 +11,7 @@ use lib.Dec.{ltb}
 use borrow.Author.Tests.{lt-ltb, le-ltb}
 use Rattle.logic.specs.Lasso.{Word, place, word, lasso_of}
 use Rattle.logic.proofs.Lasso.Period.{place_below, place_loop, lasso_inside}
-use Rattle.agreement.specs.declared.answer.Comparison.TheVariants.{Same, Differ}
+use Rattle.std.specs.Prelude.{None, Some, Ok}
 use Rattle.agreement.specs.Comparing.{alike, difference_in, window, compared}
 
 -- the place of the position after one: the next sample, or after the last the one at the loop start
@@ -63,10 +63,10 @@ module _ (k : ℕ) (σ τ : Word) where
       let j : suc i ≡ i + 1 = omega arith in
       rw (d, e) (ap (λ (x : ℕ). difference_in k σ τ x (n - (i + 1))) j)
 
-  pub passed_differ : (i n : ℕ) → i < n → alike k (σ i) (τ i) ≡ false → difference_in k σ τ i (n - i) ≡ Differ i
+  pub passed_differ : (i n : ℕ) → i < n → alike k (σ i) (τ i) ≡ false → difference_in k σ τ i (n - i) ≡ Ok (Some i)
   unfolding difference_in
   passed_differ i n h e = let d : n - i ≡ suc (n - (i + 1)) = omega arith in rw (d, e)
 
-  pub passed_all : (i n : ℕ) → n ≤ i → difference_in k σ τ i (n - i) ≡ Same
+  pub passed_all : (i n : ℕ) → n ≤ i → difference_in k σ τ i (n - i) ≡ Ok None
   unfolding difference_in
   passed_all i n h = let d : n - i ≡ 0 = omega arith in rw d

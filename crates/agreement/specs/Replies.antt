@@ -1,9 +1,8 @@
 -- The answer as numbers: the refusal's number and place, both 0 where the recordings were compared, whether they are the same, and the first moment that
 -- differs, 0 where none does or nothing was compared.
-use Rattle.std.specs.Prelude.{ℕ, ◌≡◌, Bool, true, false}
+use Rattle.std.specs.Prelude.{ℕ, ◌≡◌, Bool, true, false, None, Some, Ok, Err}
 use Rattle.refusals.specs.Refusals.{number_of, place_of}
-use Rattle.agreement.specs.declared.answer.Comparison.{Comparison}
-use Rattle.agreement.specs.declared.answer.Comparison.TheVariants.{Same, Differ, Refused}
+use Rattle.agreement.specs.Comparing.{Comparison}
 
 pub record Told : Type 0 where
   pub number : ℕ
@@ -12,9 +11,9 @@ pub record Told : Type 0 where
   pub moment : ℕ
 
 abbrev pub told : Comparison → Told
-told Same = record { number = 0; place = 0; same = true; moment = 0 }
-told (Differ m) = record { number = 0; place = 0; same = false; moment = m }
-told (Refused why) = record { number = number_of why; place = place_of why; same = false; moment = 0 }
+told (Ok None) = record { number = 0; place = 0; same = true; moment = 0 }
+told (Ok (Some m)) = record { number = 0; place = 0; same = false; moment = m }
+told (Err why) = record { number = number_of why; place = place_of why; same = false; moment = 0 }
 
 -- the answer in lent numbers
 pub record ComparisonReply (c : Comparison) (number : ℕ) (same : Bool) (moment place : ℕ) : Type 0 where

@@ -1,4 +1,2 @@
 // What a comparison of two recordings answers, whoever makes it; no code.
 #![tactic(auto)]
-
-pub mod answer;

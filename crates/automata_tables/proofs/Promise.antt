@@ -13,7 +13,7 @@ use Rattle.logic.specs.Formula.{const}
 use Rattle.logic.specs.Lasso.{word}
 use Rattle.logic.specs.Letters.{Letters}
 use Rattle.logic.specs.Hierarchy.{Δ₂}
-use Rattle.refusals.specs.declared.Outcome.TheVariants.{Accepted}
+use Rattle.std.specs.Prelude.{Ok}
 use Rattle.table.specs.Node.{kind}
 use Rattle.table.specs.Table.{formulas, formula_of, rule}
 use Rattle.table.specs.Checks.{checked}
@@ -73,7 +73,7 @@ small_letters f h (atom q) = h q
 small_letters f h (and a b) = (small_letters f h a, small_letters f h b)
 small_letters f h (or a b) = (small_letters f h a, small_letters f h b)
 
-module _ (limit : ℕ) (t : List ℕ) (ok : checked true limit t ≡ Accepted) (small : limit ≤ 16383) where
+module _ (limit : ℕ) (t : List ℕ) (ok : checked true limit t ≡ Ok tt) (small : limit ≤ 16383) where
   formed : WellFormed true limit t
   formed = accepted-well-formed true limit t ok
 
@@ -208,5 +208,5 @@ module _ (limit : ℕ) (t : List ℕ) (ok : checked true limit t ≡ Accepted) (
       by_number (suc i) p h = word-tells i (omega (arith, long))
 
 -- the same of an accepted table with its header
-pub headed-recognises : (limit : ℕ) (s : List ℕ) → headed_checked true limit s ≡ Accepted → limit ≤ 16383 → Δ₂ (rule (body s)) → Recognises (body s)
+pub headed-recognises : (limit : ℕ) (s : List ℕ) → headed_checked true limit s ≡ Ok tt → limit ≤ 16383 → Δ₂ (rule (body s)) → Recognises (body s)
 headed-recognises limit s ok small second = table-recognises limit (body s) (accepted-headed true limit s ok).words small second

@@ -7,16 +7,19 @@ ghost use Rattle.table.specs.Frame.{answer_of, result_of};
 ghost use Rattle.automaton_steps.specs.Steps.{move_step};
 
 use answer_rooms::sized;
-use refusals::Outcome;
-use table::answer::Answer;
+use refusals::Refusal;
 
 // The table's length, or why there is none.
-pub fn moves(table: &[u32], state: usize, sample: u32, driven: usize, res: &mut [u32]) -> Answer
+pub fn moves(
+    table: &[u32],
+    state: usize,
+    sample: u32,
+    driven: usize,
+    res: &mut [u32],
+) -> Result<usize, Refusal>
     ensures value { result ≡ answer_of (move_step state sample driven) table.now (length res.old) }
     ensures res_after { res.new ≡ result_of (move_step state sample driven) table.now res.old }
 {
-    match watched_checks::check(table) {
-        Outcome::Refused(r) => Answer::Refused(r),
-        Outcome::Accepted => sized(&table[1..], state, sample, driven, 16383, res),
-    }
+    watched_checks::check(table)?;
+    sized(&table[1..], state, sample, driven, 16383, res)
 }

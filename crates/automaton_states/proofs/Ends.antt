@@ -7,10 +7,9 @@ use mathlib.Core.List.{List, ◌++◌}
 use lib.ListN.{length, take, drop, replicate}
 use borrow.Author.Tests.{le-leb, lt-leb}
 use Rattle.refusals.specs.declared.Refusal.TheVariants.{ResultTooShort}
-use Rattle.refusals.specs.declared.Outcome.TheVariants as outcome
+use Rattle.std.specs.Prelude.{Ok, Err}
 use Rattle.refusals.specs.Refusals.{first}
-use Rattle.table.specs.declared.answer.Answer.{Answer}
-use Rattle.table.specs.declared.answer.Answer.TheVariants.{Made, Refused}
+use Rattle.table.specs.Answers.{Answer}
 use Rattle.table.specs.Checks.{checked}
 use Rattle.table.specs.Header.{body, headed_checked}
 use Rattle.table.specs.Numbering.{room, fits}
@@ -25,29 +24,29 @@ use Rattle.automaton_states.specs.Listed.{Listed}
 
 -- the states were written where they fit, and their number is held to the room of the slice
 module _ {t out e : List ℕ} {n m : ℕ} (q : Stated t out e n) (w : m ≡ room (length e)) where
-  pub listed_made : n ≤ m → Listed (state_words t) out e (Made n)
+  pub listed_made : n ≤ m → Listed (state_words t) out e (Ok n)
   unfolding fits
   listed_made h = record {
-    fit = λ f. (ap Made q.all, q.front (omega (arith, q.long)) ∙ ap (λ (x : ℕ). state_words t ++ drop x out) q.all);
+    fit = λ f. (ap Ok q.all, q.front (omega (arith, q.long)) ∙ ap (λ (x : ℕ). state_words t ++ drop x out) q.all);
     unfit = λ f. absurd (true≢false (sym (le-leb (length (state_words t)) (room (length out)) (omega (arith, q.all, q.long))) ∙ f));
   }
 
-  pub listed-short : {z : List ℕ} → m < n → z ≡ replicate (length e) 0 → Listed (state_words t) out z (Refused ResultTooShort)
+  pub listed-short : {z : List ℕ} → m < n → z ≡ replicate (length e) 0 → Listed (state_words t) out z (Err ResultTooShort)
   unfolding fits
   listed-short h z = record {
     fit = λ f. absurd (true≢false (sym f ∙ lt-leb (length (state_words t)) (room (length out)) (omega (arith, q.all, q.long))));
     unfit = λ f. (refl, z ∙ ap (λ (x : ℕ). replicate x 0) q.long);
   }
 
-module _ (s result : List ℕ) (ok : first (watched_checks s) ≡ outcome.Accepted) where
-  table-accepted : headed_checked true 16383 s ≡ outcome.Accepted
+module _ (s result : List ℕ) (ok : first (watched_checks s) ≡ Ok tt) where
+  table-accepted : headed_checked true 16383 s ≡ Ok tt
   table-accepted = (accepted_watched s ok).0
 
   -- there is a header, and the part after it is accepted
   pub some : 1 ≤ length s
   some = some_word true 16383 s table-accepted
 
-  pub words-accepted : checked true 16383 (take (length s - 1) (body s)) ≡ outcome.Accepted
+  pub words-accepted : checked true 16383 (take (length s - 1) (body s)) ≡ Ok tt
   words-accepted = rw (whole_body s) (accepted-headed true 16383 s table-accepted).words
 
   pub listed-ends : {e : List ℕ} {r : Answer} → Listed (state_words (take (length s - 1) (body s))) result e r → Ends states_step s result r e

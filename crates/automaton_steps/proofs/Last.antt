@@ -11,11 +11,10 @@ use borrow.Author.Tests.{lt-ltb, le-ltb, lt-leb, le-leb, eq-eqb, ne_eqb}
 use Rattle.logic.proofs.Numbers.{lt_or_le}
 use Rattle.refusals.specs.declared.Refusal.{Refusal}
 use Rattle.refusals.specs.declared.Refusal.TheVariants.{ResultTooShort}
-use Rattle.refusals.specs.declared.Outcome.{Outcome}
-use Rattle.refusals.specs.declared.Outcome.TheVariants as outcome
+use Rattle.refusals.specs.Refusals.{Outcome}
+use Rattle.std.specs.Prelude.{Ok, Err}
 use Rattle.refusals.specs.Refusals.{Check, ◌⇒◌, first, decide_by, number_of}
 use Rattle.refusals.proofs.First.{first_append-accepted, first_append-refused}
-use Rattle.table.specs.declared.answer.Answer.TheVariants.{Made, Refused}
 use Rattle.table.specs.StepChecks.{result_checks}
 use Rattle.table.specs.Numbering.{fits}
 use Rattle.table.specs.Frame.{Step, outcome_of, answer_by, answer_of, result_by, result_of, answer_number}
@@ -56,7 +55,7 @@ longs-result m k n = go (lt_or_le 16383 m)
 -- by whatever checks a step is refused: every word of the slice is 0 exactly by 12
 pub record Left (s : Step) (t slice : List ℕ) : Type 0 where
   pub zeroed : answer_number (answer_of s t (length slice)) ≡ 12 → result_of s t slice ≡ replicate (length slice) 0
-  pub kept : (r : Refusal) → answer_of s t (length slice) ≡ Refused r → (number_of r ≡ 12 → ⊥) → result_of s t slice ≡ slice
+  pub kept : (r : Refusal) → answer_of s t (length slice) ≡ Err r → (number_of r ≡ 12 → ⊥) → result_of s t slice ≡ slice
 
 pub left_by-number : (s : Step) (t slice : List ℕ) → Left s t slice
 unfolding answer_of result_of
@@ -66,44 +65,44 @@ left_by-number s t slice = record { zeroed = zeroed (outcome_of s t (length slic
     made = s.makes t
 
     zeroed : (o : Outcome) → answer_number (answer_by o (length made)) ≡ 12 → result_by o made slice ≡ replicate (length slice) 0
-    zeroed outcome.Accepted e = absurd (omega arith)
-    zeroed (outcome.Refused r) e = rw (eq-eqb (number_of r) 12 e)
+    zeroed (Ok tt) e = absurd (omega arith)
+    zeroed (Err r) e = rw (eq-eqb (number_of r) 12 e)
 
-    kept : (o : Outcome) (r : Refusal) → answer_by o (length made) ≡ Refused r → (number_of r ≡ 12 → ⊥) → result_by o made slice ≡ slice
-    kept outcome.Accepted r e f = absurd (let z : ◌≡◌ {A = ℕ} 0 1 = cc in omega arith)
-    kept (outcome.Refused q) r e f = let same : q ≡ r = cc in rw (ne_eqb (number_of q) 12 (λ x. f (sym (ap number_of same) ∙ x)))
+    kept : (o : Outcome) (r : Refusal) → answer_by o (length made) ≡ Err r → (number_of r ≡ 12 → ⊥) → result_by o made slice ≡ slice
+    kept (Ok tt) r e f = absurd (let z : ◌≡◌ {A = ℕ} 0 1 = cc in omega arith)
+    kept (Err q) r e f = let same : q ≡ r = cc in rw (ne_eqb (number_of q) 12 (λ x. f (sym (ap number_of same) ∙ x)))
 
 -- a step that makes checks xs, none of which is for length, and then 12 unless it fits
 pub record Last (s : Step) (t slice : List ℕ) (xs : List Check) (fit : Bool) : Type 0 where
   pub whole : outcome_of s t (length slice) ≡ first (xs ++ length_checks fit)
-  pub early : (r : Refusal) → first xs ≡ outcome.Refused r → number_of r ≡ 12 → ⊥
+  pub early : (r : Refusal) → first xs ≡ Err r → number_of r ≡ 12 → ⊥
 
 module _ {s : Step} {t slice : List ℕ} {xs : List Check} {fit : Bool} (q : Last s t slice xs fit) where
   by_outcome : {o : Outcome} → outcome_of s t (length slice) ≡ o → Ends s t slice (answer_by o (length (s.makes t))) (result_by o (s.makes t) slice)
   unfolding answer_of result_of
   by_outcome e = record { reply = ap (λ (x : Outcome). answer_by x (length (s.makes t))) (sym e); slice = ap (λ (x : Outcome). result_by x (s.makes t) slice) (sym e) }
 
-  pub last_refused : (r : Refusal) → first xs ≡ outcome.Refused r → Ends s t slice (Refused r) slice
+  pub last_refused : (r : Refusal) → first xs ≡ Err r → Ends s t slice (Err r) slice
   last_refused r e = rw (ne_eqb (number_of r) 12 (q.early r e)) at (by_outcome (q.whole ∙ first_append-refused xs (length_checks fit) r e))
 
-  module _ (ok : first xs ≡ outcome.Accepted) where
+  module _ (ok : first xs ≡ Ok tt) where
     accepted : outcome_of s t (length slice) ≡ first (length_checks fit)
     accepted = q.whole ∙ first_append-accepted xs (length_checks fit) ok
 
-    pub last_unfit : fit ≡ false → Ends s t slice (Refused ResultTooShort) (replicate (length slice) 0)
+    pub last_unfit : fit ≡ false → Ends s t slice (Err ResultTooShort) (replicate (length slice) 0)
     last_unfit f = by_outcome (accepted ∙ ap (λ (b : Bool). first (length_checks b)) f)
 
-    pub last_fit : fit ≡ true → Ends s t slice (Made (length (s.makes t))) (s.makes t ++ drop (length (s.makes t)) slice)
+    pub last_fit : fit ≡ true → Ends s t slice (Ok (length (s.makes t))) (s.makes t ++ drop (length (s.makes t)) slice)
     last_fit f = by_outcome (accepted ∙ ap (λ (b : Bool). first (length_checks b)) f)
 
   -- 12 exactly when the checks pass and it does not fit
-  pub last_exactly : (answer_number (answer_of s t (length slice)) ≡ 12) ↔ ((first xs ≡ outcome.Accepted) × (fit ≡ false))
+  pub last_exactly : (answer_number (answer_of s t (length slice)) ≡ 12) ↔ ((first xs ≡ Ok tt) × (fit ≡ false))
   last_exactly = (λ a. by_checks a (first xs) refl, λ p. ap answer_number (sym (last_unfit p.0 p.1).reply))
     where
-      by_fit : (b : Bool) → fit ≡ b → first xs ≡ outcome.Accepted → answer_number (answer_of s t (length slice)) ≡ 12 → fit ≡ false
+      by_fit : (b : Bool) → fit ≡ b → first xs ≡ Ok tt → answer_number (answer_of s t (length slice)) ≡ 12 → fit ≡ false
       by_fit false f ok a = f
       by_fit true f ok a = absurd (let z : ◌≡◌ {A = ℕ} 0 12 = ap answer_number (last_fit ok f).reply ∙ a in omega arith)
 
-      by_checks : answer_number (answer_of s t (length slice)) ≡ 12 → (o : Outcome) → first xs ≡ o → (first xs ≡ outcome.Accepted) × (fit ≡ false)
-      by_checks a outcome.Accepted e = (e, by_fit fit refl e a)
-      by_checks a (outcome.Refused r) e = absurd (q.early r e (ap answer_number (last_refused r e).reply ∙ a))
+      by_checks : answer_number (answer_of s t (length slice)) ≡ 12 → (o : Outcome) → first xs ≡ o → (first xs ≡ Ok tt) × (fit ≡ false)
+      by_checks a (Ok tt) e = (e, by_fit fit refl e a)
+      by_checks a (Err r) e = absurd (q.early r e (ap answer_number (last_refused r e).reply ∙ a))

@@ -10,11 +10,10 @@ use lib.Dec.{ltb, leb}
 use borrow.Author.Tests.{lt-ltb, le-ltb, ltb-false}
 use Rattle.refusals.specs.declared.Refusal.{Refusal}
 use Rattle.refusals.specs.declared.Refusal.TheVariants.{ResultTooShort, StateOutside}
-use Rattle.refusals.specs.declared.Outcome.{Outcome}
-use Rattle.refusals.specs.declared.Outcome.TheVariants as outcome
+use Rattle.refusals.specs.Refusals.{Outcome}
+use Rattle.std.specs.Prelude.{Ok, Err}
 use Rattle.refusals.specs.Refusals.{Check, first, decide_by, number_of, outcome_number}
 use Rattle.refusals.proofs.First.{first_append-accepted, first_append-refused, first_append_both, first_passed}
-use Rattle.table.specs.declared.answer.Answer.TheVariants.{Made, Refused}
 use Rattle.table.specs.Header.{body, headed_checked}
 use Rattle.table.specs.StepChecks.{sample_checks, result_checks}
 use Rattle.table.specs.Steps.{is_normal}
@@ -30,7 +29,7 @@ use Rattle.automaton_steps.proofs.States.{watched_refusal, accepted_watched}
 
 -- what is known where the table, the state and the sample pass
 pub record Asked (n driven : ℕ) (s : List ℕ) : Type 0 where
-  pub table : headed_checked true 16383 s ≡ outcome.Accepted
+  pub table : headed_checked true 16383 s ≡ Ok tt
   pub normal : is_normal (body s) ≡ true
   pub inside : n ≤ length (state_words (body s))
   pub sample : sample.Sampled driven (body s)
@@ -39,11 +38,11 @@ module _ (n driven : ℕ) (s : List ℕ) where
   abbrev asked : List Check
   asked = state_checks n (body s) ++ sample_checks driven (body s)
 
-  pub asked-table : (r : Refusal) → first (watched_checks s) ≡ outcome.Refused r → first (asked_checks n driven s) ≡ outcome.Refused r
+  pub asked-table : (r : Refusal) → first (watched_checks s) ≡ Err r → first (asked_checks n driven s) ≡ Err r
   asked-table r e = first_append-refused (watched_checks s) asked r e
 
-  module _ (ok : first (watched_checks s) ≡ outcome.Accepted) where
-    pub asked-state : length (state_words (body s)) < n → first (asked_checks n driven s) ≡ outcome.Refused StateOutside
+  module _ (ok : first (watched_checks s) ≡ Ok tt) where
+    pub asked-state : length (state_words (body s)) < n → first (asked_checks n driven s) ≡ Err StateOutside
     unfolding state_checks
     asked-state h = first_append-accepted (watched_checks s) asked ok ∙ rw (lt-ltb (length (state_words (body s))) n h)
 
@@ -51,7 +50,7 @@ module _ (n driven : ℕ) (s : List ℕ) where
     unfolding state_checks
     asked-sample h = first_append-accepted (watched_checks s) asked ok ∙ rw (le-ltb (length (state_words (body s))) n h)
 
-  pub asked-accepted : first (asked_checks n driven s) ≡ outcome.Accepted → Asked n driven s
+  pub asked-accepted : first (asked_checks n driven s) ≡ Ok tt → Asked n driven s
   unfolding state_checks
   asked-accepted e =
       let p = (first_append_both (watched_checks s) asked).0 e in
@@ -65,17 +64,17 @@ module _ (n driven : ℕ) (s : List ℕ) where
       }
 
   -- none of them is for length
-  pub asked-refusal : (r : Refusal) → first (asked_checks n driven s) ≡ outcome.Refused r → number_of r ≡ 12 → ⊥
+  pub asked-refusal : (r : Refusal) → first (asked_checks n driven s) ≡ Err r → number_of r ≡ 12 → ⊥
   unfolding state_checks
   asked-refusal r e z = by_table (first (watched_checks s)) refl
     where
-      by_state : headed_checked true 16383 s ≡ outcome.Accepted → (b : Bool) → decide_by b StateOutside (first (sample_checks driven (body s))) ≡ outcome.Refused r → ⊥
+      by_state : headed_checked true 16383 s ≡ Ok tt → (b : Bool) → decide_by b StateOutside (first (sample_checks driven (body s))) ≡ Err r → ⊥
       by_state k true d = let y : ◌≡◌ {A = ℕ} 6 12 = ap outcome_number d ∙ z in omega arith
       by_state k false d = (sample.after_early 0 driven).early s r (sample.table-accepted 0 driven s k ∙ d) z
 
       by_table : (o : Outcome) → first (watched_checks s) ≡ o → ⊥
-      by_table outcome.Accepted k = by_state (accepted_watched s k).0 (ltb (length (state_words (body s))) n) (sym (first_append-accepted (watched_checks s) asked k) ∙ e)
-      by_table (outcome.Refused q) k =
+      by_table (Ok tt) k = by_state (accepted_watched s k).0 (ltb (length (state_words (body s))) n) (sym (first_append-accepted (watched_checks s) asked k) ∙ e)
+      by_table (Err q) k =
           let a = asked-table q k in
           let same : r ≡ q = cc in
           watched_refusal s q k (sym (ap number_of same) ∙ z)
@@ -102,16 +101,16 @@ module _ (n v driven : ℕ) (s result : List ℕ) where
   }
 
   -- refused before 12: the slice keeps its words
-  pub move-refused : (r : Refusal) → first (asked_checks n driven s) ≡ outcome.Refused r → Ends (move_step n v driven) s result (Refused r) result
+  pub move-refused : (r : Refusal) → first (asked_checks n driven s) ≡ Err r → Ends (move_step n v driven) s result (Err r) result
   move-refused r e = last_refused move_last r e
 
-  module _ (ok : first (asked_checks n driven s) ≡ outcome.Accepted) where
-    pub move-unfit : fit ≡ false → Ends (move_step n v driven) s result (Refused ResultTooShort) (replicate (length result) 0)
+  module _ (ok : first (asked_checks n driven s) ≡ Ok tt) where
+    pub move-unfit : fit ≡ false → Ends (move_step n v driven) s result (Err ResultTooShort) (replicate (length result) 0)
     move-unfit f = last_unfit move_last ok f
 
-    pub move_made : fit ≡ true → Ends (move_step n v driven) s result (Made (length words)) (words ++ drop (length words) result)
+    pub move_made : fit ≡ true → Ends (move_step n v driven) s result (Ok (length words)) (words ++ drop (length words) result)
     move_made f = last_fit move_last ok f
 
   -- 12 exactly when all else passes, and there are more than 16,383 states or more words than fit
-  pub move_for_length : (answer_number (answer_of (move_step n v driven) s (length result)) ≡ 12) ↔ ((first (asked_checks n driven s) ≡ outcome.Accepted) × (fit ≡ false))
+  pub move_for_length : (answer_number (answer_of (move_step n v driven) s (length result)) ≡ 12) ↔ ((first (asked_checks n driven s) ≡ Ok tt) × (fit ≡ false))
   move_for_length = last_exactly move_last

@@ -6,10 +6,9 @@ use mathlib.Core.Bool.{true}
 use mathlib.Core.List.{List}
 use lib.ListN.{length, take}
 use borrow.Author.Tests.{ltb-false}
-use Rattle.refusals.specs.declared.Outcome.TheVariants.{Accepted}
+use Rattle.std.specs.Prelude.{Ok}
 use Rattle.refusals.specs.Refusals.{first}
 use Rattle.refusals.proofs.First.{first_append_both, first_passed}
-use Rattle.table.specs.declared.answer.Answer.TheVariants.{Made}
 use Rattle.table.specs.Table.{rule}
 use Rattle.table.specs.Header.{body, headed_checked}
 use Rattle.table.specs.Steps.{is_normal}
@@ -26,16 +25,16 @@ use Rattle.automaton_steps.proofs.Moves.{asked-accepted}
 use Rattle.automaton_steps.specs.Watching.{Watched, Moved}
 
 -- an accepted table in Δ₂
-accepted-recognises : (s : List ℕ) → headed_checked true 16383 s ≡ Accepted → is_normal (body s) ≡ true → Recognises (body s)
+accepted-recognises : (s : List ℕ) → headed_checked true 16383 s ≡ Ok tt → is_normal (body s) ≡ true → Recognises (body s)
 accepted-recognises s ok normal = headed-recognises 16383 s ok (omega arith) ((normal-exactly (body s)).0 normal)
 
 -- at most as many as a table may have words
-short : (k : ℕ) → first (long_checks k) ≡ Accepted → k ≤ 16383
+short : (k : ℕ) → first (long_checks k) ≡ Ok tt → k ≤ 16383
 unfolding long_checks
 short k e = ltb-false 16383 k (first_passed (long_checks k) e).0
 
 -- of every answered call for the states
-pub made_states : (s slice : List ℕ) (n : ℕ) → answer_of states_step s (length slice) ≡ Made n → Watched s (take n (result_of states_step s slice))
+pub made_states : (s slice : List ℕ) (n : ℕ) → answer_of states_step s (length slice) ≡ Ok n → Watched s (take n (result_of states_step s slice))
 made_states s slice n made =
     let a = answered states_step s slice n made in
     let checks = (first_append_both (watched_checks s) (long_checks (length (state_words (body s))))).0 a.accepted in
@@ -43,7 +42,7 @@ made_states s slice n made =
     record { words = a.front; recognises = accepted-recognises s table.0 table.1 }
 
 -- of every answered call for a move
-pub made_move : (q v driven : ℕ) (s slice : List ℕ) (n : ℕ) → answer_of (move_step q v driven) s (length slice) ≡ Made n
+pub made_move : (q v driven : ℕ) (s slice : List ℕ) (n : ℕ) → answer_of (move_step q v driven) s (length slice) ≡ Ok n
     → Moved q v s (take n (result_of (move_step q v driven) s slice))
 made_move q v driven s slice n made =
     let a = answered (move_step q v driven) s slice n made in

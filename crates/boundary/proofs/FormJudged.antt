@@ -9,7 +9,7 @@ use Rattle.logic.specs.Lasso.{Lasso}
 use Rattle.logic.specs.Truth.{truth}
 use Rattle.logic.proofs.Tests.{T_same}
 use Rattle.logic.proofs.Lasso.Truth.{truth-holds}
-use Rattle.refusals.specs.declared.Outcome.TheVariants.{Accepted}
+use Rattle.std.specs.Prelude.{Ok}
 use Rattle.table.specs.Table.{rule}
 use Rattle.table.specs.Header.{body}
 use Rattle.table.proofs.Header.{accepted-headed}
@@ -21,9 +21,9 @@ use Rattle.judging.proofs.Accepted.{accepted-facts}
 use Rattle.judge_laws.proofs.Promise.{rule-drives}
 
 module _ (t p form : List ℕ) (n : ℕ) (kept : Formed t p form n) (samples : List ℕ) (start driven : ℕ) (scratch : List ℕ)
-    (accepted : row_outcome t samples start driven scratch ≡ Accepted) where
+    (accepted : row_outcome t samples start driven scratch ≡ Ok tt) where
   -- a scratch that has the words of its rows is all that the form still needs
-  pub form-accepted : (scratch' : List ℕ) → length (body (take n form)) * row_words (length samples) ≤ length scratch' → row_outcome (take n form) samples start driven scratch' ≡ Accepted
+  pub form-accepted : (scratch' : List ℕ) → length (body (take n form)) * row_words (length samples) ≤ length scratch' → row_outcome (take n form) samples start driven scratch' ≡ Ok tt
   unfolding row_outcome
   form-accepted scratch' room =
       let f = accepted-facts t samples start driven scratch accepted in
@@ -45,7 +45,7 @@ module _ (t p form : List ℕ) (n : ℕ) (kept : Formed t p form n) (samples : L
       let r : Lasso = lasso_of samples start driven in
       T_same _ _ (Iff.trans (truth-holds r (rule (body (take n form))) i) (Iff.trans (kept.holds r (rule-drives t samples start driven scratch accepted) i) (Iff.symm (truth-holds r (rule (body t)) i)))))
 
-  pub same_row : last_row Accepted (take n form) samples start driven ≡ last_row Accepted t samples start driven
+  pub same_row : last_row (Ok tt) (take n form) samples start driven ≡ last_row (Ok tt) t samples start driven
   unfolding last_row row_of
   same_row = ap (row (length (lasso_of samples start driven).samples)) same_truth
 

@@ -1,5 +1,6 @@
 -- What the case runner prints of a case.
 use Rattle.std.specs.Prelude.{ℕ, List, Bool, ◌++◌, cond, codes, decimal}
+use Rattle.refusals.specs.declared.Report.{Report}
 
 -- A number after a space.
 abbrev pub field : ℕ → List ℕ
@@ -10,5 +11,5 @@ abbrev pub flag : Bool → List ℕ
 flag so = field (cond so 1 0)
 
 -- A refusal's number and place.
-abbrev pub answer : ℕ → ℕ → List ℕ
-answer refusal place = field refusal ++ field place
+abbrev pub answer : Report → List ℕ
+answer report = field report.0 ++ field report.1

@@ -2,47 +2,27 @@
 ghost use Rattle.std.specs.Prelude.{OnOk, ◌++◌};
 ghost use Rattle.std.specs.Io.KnownBytes.{Appends};
 ghost use Rattle.case_output.specs.Fields.{answer, field, flag};
+ghost use Rattle.case_output.specs.Sums.{sum};
 
 use crate::{show, sum};
+use refusals::Report;
 use std::io;
 use std::io::Write;
 
 // Words that were made.
-pub fn words<W: Write>(
-    out: &mut W,
-    number: u32,
-    place: usize,
-    words: usize,
-    res: &[u32; 16400],
-) -> io::Result<()> {
-    show::answer(out, number, place)?;
+pub fn words<W: Write>(out: &mut W, report: Report, words: usize, res: &[u32]) -> io::Result<()>
+    ensures { OnOk result (Appends (W.contents out.old) (W.contents out.new) (answer report ++ field words ++ field (sum (λ w. w) 0 res.now))) }
+{
+    show::answer(out, report)?;
     show::number(out, words)?;
-    sum::form(out, res)
-}
-
-pub fn plain<W: Write>(
-    out: &mut W,
-    number: u32,
-    place: usize,
-    words: usize,
-    res: &[u32; 520],
-) -> io::Result<()> {
-    show::answer(out, number, place)?;
-    show::number(out, words)?;
-    sum::plain(out, res)
+    sum::whole(out, res)
 }
 
 // A form: whether it is its source, before the sums.
-pub fn form<W: Write>(
-    out: &mut W,
-    number: u32,
-    place: usize,
-    words: usize,
-    own: bool,
-) -> io::Result<()>
-    ensures { OnOk result (Appends (W.contents out.old) (W.contents out.new) (answer number place ++ field words ++ flag own)) }
+pub fn form<W: Write>(out: &mut W, report: Report, words: usize, own: bool) -> io::Result<()>
+    ensures { OnOk result (Appends (W.contents out.old) (W.contents out.new) (answer report ++ field words ++ flag own)) }
 {
-    show::answer(out, number, place)?;
+    show::answer(out, report)?;
     show::number(out, words)?;
     show::flag(out, own)
 }
@@ -50,15 +30,14 @@ pub fn form<W: Write>(
 // A judgement, before its tally.
 pub fn judgement<W: Write>(
     out: &mut W,
-    number: u32,
-    place: usize,
+    report: Report,
     holds: bool,
     moments: usize,
     failing: usize,
 ) -> io::Result<()>
-    ensures { OnOk result (Appends (W.contents out.old) (W.contents out.new) (answer number place ++ flag holds ++ field moments ++ field failing)) }
+    ensures { OnOk result (Appends (W.contents out.old) (W.contents out.new) (answer report ++ flag holds ++ field moments ++ field failing)) }
 {
-    show::answer(out, number, place)?;
+    show::answer(out, report)?;
     show::flag(out, holds)?;
     show::number(out, moments)?;
     show::number(out, failing)
@@ -67,14 +46,13 @@ pub fn judgement<W: Write>(
 // Two recordings held against each other.
 pub fn comparison<W: Write>(
     out: &mut W,
-    number: u32,
-    place: usize,
+    report: Report,
     same: bool,
     moment: usize,
 ) -> io::Result<()>
-    ensures { OnOk result (Appends (W.contents out.old) (W.contents out.new) (answer number place ++ flag same ++ field moment)) }
+    ensures { OnOk result (Appends (W.contents out.old) (W.contents out.new) (answer report ++ flag same ++ field moment)) }
 {
-    show::answer(out, number, place)?;
+    show::answer(out, report)?;
     show::flag(out, same)?;
     show::number(out, moment)
 }

@@ -3,6 +3,7 @@ ghost use Rattle.std.specs.Prelude.{OnOk, codes, decimal};
 ghost use Rattle.std.specs.Io.KnownBytes.{Appends};
 ghost use Rattle.case_output.specs.Fields.{answer, field, flag};
 
+use refusals::Report;
 use std::io;
 use std::io::Write;
 
@@ -22,13 +23,14 @@ pub fn number<W: Write>(out: &mut W, n: usize) -> io::Result<()>
 pub fn flag<W: Write>(out: &mut W, so: bool) -> io::Result<()>
     ensures { OnOk result (Appends (W.contents out.old) (W.contents out.new) (flag so)) }
 {
-    if so { number(out, 1) } else { number(out, 0) }
+    number(out, usize::from(so))
 }
 
 // A refusal's number and place.
-pub fn answer<W: Write>(out: &mut W, refusal: u32, place: usize) -> io::Result<()>
-    ensures { OnOk result (Appends (W.contents out.old) (W.contents out.new) (answer refusal place)) }
+pub fn answer<W: Write>(out: &mut W, report: Report) -> io::Result<()>
+    ensures { OnOk result (Appends (W.contents out.old) (W.contents out.new) (answer report)) }
 {
+    let Report(refusal, place) = report;
     number(out, refusal as usize)?;
     number(out, place)
 }

@@ -4,6 +4,7 @@
 #![tactic(auto)]
 
 mod judge_steps;
+mod step;
 mod steps;
 mod table_steps;
 
@@ -13,6 +14,7 @@ use std::io::{BufWriter, Write};
 fn main(rt: HostRuntime) -> io::Result<()> {
     let mut reader = rt.stdin();
     let mut out = BufWriter::new(rt.alloc(), rt.stdout())?;
+    // By a count: of a reader no measure says that its input ends.
     for _ in 0..100000 {
         if !steps::one(&mut reader, &mut out)? {
             break;

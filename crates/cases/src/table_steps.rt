@@ -1,176 +1,156 @@
 // The calls that check a table or make one of it: on slices that held a pattern, and what comes back. Each number that a call writes held 9.
-use case_input as input;
-use case_input::{number, word};
+use case_input::Case;
 use case_output::{made, show, sum};
+use refusals::Report;
 use std::io;
 use std::io::Write;
-use table::settings::Limits;
 
-pub fn check<W: Write>(out: &mut W, head: &[u32; 19], table: &[u32]) -> io::Result<()> {
+pub fn check<W: Write>(out: &mut W, case: &Case<'_>) -> io::Result<()> {
     let mut place: usize = 9;
-    let refusal = table_calls::check(
-        table,
-        number(head, input::PLAIN) == 1,
-        number(head, input::LIMIT),
-        &mut place,
-    );
-    show::answer(out, refusal, place)
+    let refusal = table_calls::check(case.table, case.head.plain, case.head.limit, &mut place);
+    show::answer(out, Report(refusal, place))
 }
 
-pub fn classify<W: Write>(out: &mut W, head: &[u32; 19], table: &[u32]) -> io::Result<()> {
+pub fn classify<W: Write>(out: &mut W, case: &Case<'_>) -> io::Result<()> {
     let mut bytes = [0xEEu8; 16400];
     let mut place: usize = 9;
-    let room = number(head, input::ROOM);
-    if room <= 16400 {
-        let refusal = table_calls::classify(table, &mut bytes[0..room], &mut place);
-        show::answer(out, refusal, place)?;
-        sum::bytes(out, &bytes)?;
+    let room = case.head.room;
+    if room <= bytes.len() {
+        let refusal = table_calls::classify(case.table, &mut bytes[..room], &mut place);
+        show::answer(out, Report(refusal, place))?;
+        sum::whole(out, &bytes)?;
+    }
+    Ok(())
+}
+
+// What a call writes into a slice of so many words, the first of `room` of them lent to it.
+fn shown<W: Write, F: FnOnce(&mut [u32], &mut usize, &mut usize) -> u32>(
+    out: &mut W,
+    lent: &mut [u32],
+    room: usize,
+    call: F,
+) -> io::Result<()>
+    requires { F.IsAlwaysCallable call }
+{
+    let mut words: usize = 9;
+    let mut place: usize = 9;
+    if room <= lent.len() {
+        let refusal = call(&mut lent[..room], &mut words, &mut place);
+        made::words(out, Report(refusal, place), words, lent)?;
     }
     Ok(())
 }
 
 // The listed words are the bytes of the text.
-pub fn text<W: Write>(out: &mut W, head: &[u32; 19], listed: &[u32]) -> io::Result<()> {
+pub fn text<W: Write>(out: &mut W, case: &Case<'_>) -> io::Result<()> {
     let mut bytes = [0u8; 16400];
-    let n = listed.len();
-    case_input::bytes(listed, &mut bytes);
-    if n <= 16400 {
-        read(out, head, &bytes[0..n])?;
-    }
-    Ok(())
-}
-
-fn read<W: Write>(out: &mut W, head: &[u32; 19], text: &[u8]) -> io::Result<()> {
     let mut result = [0xEEEEEEEEu32; 520];
-    let mut words: usize = 9;
-    let mut place: usize = 9;
-    let room = number(head, input::ROOM);
-    if room <= 520 {
-        let refusal = text_call::text(
-            text,
-            number(head, input::WRITTEN),
-            number(head, input::FIXPOINTS),
-            &mut result[0..room],
-            &mut words,
-            &mut place,
-        );
-        made::plain(out, refusal, place, words, &result)?;
-    }
-    Ok(())
+    let Some(text) = case_input::bytes(case.table, &mut bytes) else {
+        return Ok(());
+    };
+    let limits = case.head.limits;
+    shown(out, &mut result, case.head.room, |res, words, place| {
+        text_call::text(text, limits.written, limits.fixpoints, res, words, place)
+    })
 }
 
-pub fn plain<W: Write>(out: &mut W, head: &[u32; 19], table: &[u32]) -> io::Result<()> {
+pub fn plain<W: Write>(out: &mut W, case: &Case<'_>) -> io::Result<()> {
     let mut result = [0xEEEEEEEEu32; 520];
-    let mut words: usize = 9;
-    let mut place: usize = 9;
-    let room = number(head, input::ROOM);
-    if room <= 520 {
-        let refusal = plain_call::plain(
-            table,
-            number(head, input::WRITTEN),
-            number(head, input::FIXPOINTS),
-            &mut result[0..room],
-            &mut words,
-            &mut place,
-        );
-        made::plain(out, refusal, place, words, &result)?;
-    }
-    Ok(())
-}
-
-// The steps that make words by no limits of a house: a conversion, a step by a sample, the states of an automaton, or a state's move.
-fn made_by(
-    head: &[u32; 19],
-    table: &[u32],
-    res: &mut [u32],
-    words: &mut usize,
-    place: &mut usize,
-) -> u32 {
-    let sample = word(head, input::JUDGED);
-    let driven = number(head, input::DRIVEN);
-    match word(head, input::STEP) {
-        9 => step_calls::dialect(table, res, words, place),
-        11 => step_calls::after(table, sample, driven, res, words, place),
-        12 => automaton_calls::states(table, res, words, place),
-        _ => automaton_calls::moves(
-            table,
-            number(head, input::DESK),
-            sample,
-            driven,
+    let limits = case.head.limits;
+    shown(out, &mut result, case.head.room, |res, words, place| {
+        plain_call::plain(
+            case.table,
+            limits.written,
+            limits.fixpoints,
             res,
             words,
             place,
-        ),
-    }
+        )
+    })
 }
 
-pub fn words<W: Write>(out: &mut W, head: &[u32; 19], table: &[u32]) -> io::Result<()> {
+pub fn dialect<W: Write>(out: &mut W, case: &Case<'_>) -> io::Result<()> {
     let mut result = [0xEEEEEEEEu32; 16400];
-    let mut words: usize = 9;
-    let mut place: usize = 9;
-    let room = number(head, input::ROOM);
-    if room <= 16400 {
-        let refusal = made_by(head, table, &mut result[0..room], &mut words, &mut place);
-        made::words(out, refusal, place, words, &result)?;
-    }
-    Ok(())
+    shown(out, &mut result, case.head.room, |res, words, place| {
+        step_calls::dialect(case.table, res, words, place)
+    })
+}
+
+pub fn after<W: Write>(out: &mut W, case: &Case<'_>) -> io::Result<()> {
+    let mut result = [0xEEEEEEEEu32; 16400];
+    let head = &case.head;
+    shown(out, &mut result, head.room, |res, words, place| {
+        step_calls::after(case.table, head.sample(), head.driven, res, words, place)
+    })
+}
+
+pub fn states<W: Write>(out: &mut W, case: &Case<'_>) -> io::Result<()> {
+    let mut result = [0xEEEEEEEEu32; 16400];
+    shown(out, &mut result, case.head.room, |res, words, place| {
+        automaton_calls::states(case.table, res, words, place)
+    })
+}
+
+pub fn moves<W: Write>(out: &mut W, case: &Case<'_>) -> io::Result<()> {
+    let mut result = [0xEEEEEEEEu32; 16400];
+    let head = &case.head;
+    shown(out, &mut result, head.room, |res, words, place| {
+        automaton_calls::moves(
+            case.table,
+            head.state(),
+            head.sample(),
+            head.driven,
+            res,
+            words,
+            place,
+        )
+    })
 }
 
 // The form that is handed back, and both slices, of which the source keeps its words.
-pub fn normal<W: Write>(out: &mut W, head: &[u32; 19], table: &[u32]) -> io::Result<()> {
+pub fn normal<W: Write>(out: &mut W, case: &Case<'_>) -> io::Result<()> {
     let mut source = [0u32; 16400];
     let mut result = [0xEEEEEEEEu32; 16400];
-    let n = table.len();
-    let room = number(head, input::ROOM);
-    case_input::copy(table, &mut source);
-    if n <= 16400 && room <= 16400 {
-        handed(out, head, &mut source[0..n], &mut result[0..room])?;
-        sum::form(out, &source)?;
-        sum::form(out, &result)?;
+    let n = case.table.len();
+    let room = case.head.room;
+    if n <= source.len() && room <= result.len() {
+        source[..n].copy_from_slice(case.table);
+        handed(out, case, &mut source[..n], &mut result[..room])?;
+        sum::whole(out, &source)?;
+        sum::whole(out, &result)?;
     }
     Ok(())
 }
 
 fn handed<W: Write>(
     out: &mut W,
-    head: &[u32; 19],
+    case: &Case<'_>,
     source: &mut [u32],
     res: &mut [u32],
 ) -> io::Result<()> {
     let mut refusal: u32 = 9;
     let mut place: usize = 9;
-    let limits = Limits {
-        written: number(head, input::WRITTEN),
-        fixpoints: number(head, input::FIXPOINTS),
-    };
-    let part = handed_form::normalise(limits, source, res, &mut refusal, &mut place);
-    show::answer(out, refusal, place)?;
-    sum::words(out, part)
+    let part = handed_form::normalise(case.head.limits, source, res, &mut refusal, &mut place);
+    show::answer(out, Report(refusal, place))?;
+    sum::part(out, part)
 }
 
-pub fn form<W: Write>(out: &mut W, head: &[u32; 19], table: &[u32]) -> io::Result<()> {
+pub fn form<W: Write>(out: &mut W, case: &Case<'_>) -> io::Result<()> {
     let mut plain = [0xEEEEEEEEu32; 520];
     let mut result = [0xEEEEEEEEu32; 16400];
-    let room = number(head, input::ROOM);
-    let second = number(head, input::SECOND);
-    if room <= 520 && second <= 16400 {
-        whole_way(
-            out,
-            head,
-            table,
-            &mut plain[0..room],
-            &mut result[0..second],
-        )?;
-        sum::plain(out, &plain)?;
-        sum::form(out, &result)?;
+    let room = case.head.room;
+    let second = case.head.second;
+    if room <= plain.len() && second <= result.len() {
+        whole_way(out, case, &mut plain[..room], &mut result[..second])?;
+        sum::whole(out, &plain)?;
+        sum::whole(out, &result)?;
     }
     Ok(())
 }
 
 fn whole_way<W: Write>(
     out: &mut W,
-    head: &[u32; 19],
-    table: &[u32],
+    case: &Case<'_>,
     plain: &mut [u32],
     res: &mut [u32],
 ) -> io::Result<()> {
@@ -178,14 +158,14 @@ fn whole_way<W: Write>(
     let mut words: usize = 9;
     let mut place: usize = 9;
     let refusal = form_calls::form(
-        table,
-        number(head, input::WRITTEN),
-        number(head, input::FIXPOINTS),
+        case.table,
+        case.head.limits.written,
+        case.head.limits.fixpoints,
         plain,
         res,
         &mut own,
         &mut words,
         &mut place,
     );
-    made::form(out, refusal, place, words, own)
+    made::form(out, Report(refusal, place), words, own)
 }

@@ -1,6 +1,6 @@
 -- A choice's draft while it is filled: which forms of which words stand at their slots.
 use Rattle.std.specs.Prelude.{ℕ, suc, ◌+◌, ◌*◌, ◌^◌, ◌<◌, ◌≤◌, ◌≡◌, Bool, true, List, length, get_or}
-use Rattle.refusals.specs.declared.Outcome.TheVariants.{Accepted}
+use Rattle.std.specs.Prelude.{Ok}
 use Rattle.table.specs.Steps.{fixpoints}
 use Rattle.table.specs.Checks.{checked}
 use Rattle.slots.specs.Slot.{pack}
@@ -30,7 +30,7 @@ pub record Chosen (t : List ℕ) (c : ℕ) (d : List ℕ) (n : ℕ) : Type 0 whe
 -- an accepted plain table, and a draft that is long enough for each of its choices, and whose slots fit the fields of a slot
 pub record Roomy (t d : List ℕ) : Type 0 where
   pub limit : ℕ
-  pub accepted : checked true limit t ≡ Accepted
+  pub accepted : checked true limit t ≡ Ok tt
   pub long : draft_size t ≤ length d
   pub narrow : length d ≤ 2 ^ 20
 

@@ -9,12 +9,10 @@ pub fn choose_words(table: &[u32], positions: &[u8], choice: u32, draft: &mut [u
     requires { Fillable table.now positions.now draft.old }
     ensures { Chosen table.now choice draft.new (length table.now) }
 {
-    let mut i = 0;
-    while i < table.len() {
-        if fixpoints::is_fixpoint(table[i]) {
+    for (i, &w) in table.iter().enumerate() {
+        if fixpoints::is_fixpoint(w) {
             let chosen = choice_bits::chosen(positions, choice, i + 1);
-            word_slots::choose_word(table[i], i + 1, chosen, draft);
+            word_slots::choose_word(w, i + 1, chosen, draft);
         }
-        i += 1;
     }
 }

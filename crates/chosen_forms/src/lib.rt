@@ -6,7 +6,8 @@ ghost use Rattle.form_places.specs.Places as places;
 ghost use Rattle.rewriting.specs.Slots as specs;
 ghost use Rattle.chosen_forms.specs.Rewritten.{Rewritten};
 
-use form_places::{Rewriting, next, operator};
+use form_places::{Rewriting, operator};
+use rewriting::kept;
 use slots::slot;
 use table::kinds;
 
@@ -15,11 +16,7 @@ pub fn steady(w: u32, chosen: bool) -> u64
     requires { specs.Plain w }
     ensures { Rewritten Rewriting.Steady w chosen (places.place Rewriting.Steady (node.left w)) (places.place Rewriting.Steady (node.right w)) result }
 {
-    let kind = word::kind(w);
-    match kind {
-        kinds::FALSE..=kinds::TRUE => slot::pack(kind, 0, 0),
-        kinds::LETTER..=kinds::NOT_LETTER => slot::pack(kind, 0, word::right(w)),
-        kinds::NEXT => next(Rewriting::Steady, w),
+    match word::kind(w) {
         kinds::UNTIL => {
             if chosen {
                 operator(Rewriting::Steady, kinds::WEAK, w)
@@ -34,8 +31,7 @@ pub fn steady(w: u32, chosen: bool) -> u64
                 slot::pack(kinds::FALSE, 0, 0)
             }
         }
-        kinds::AND..=kinds::STRONG => operator(Rewriting::Steady, kind, w),
-        _ => 0,
+        _ => kept(Rewriting::Steady, w),
     }
 }
 
@@ -44,11 +40,7 @@ pub fn recurring(w: u32, chosen: bool) -> u64
     requires { specs.Plain w }
     ensures { Rewritten Rewriting.Recurring w chosen (places.place Rewriting.Recurring (node.left w)) (places.place Rewriting.Recurring (node.right w)) result }
 {
-    let kind = word::kind(w);
-    match kind {
-        kinds::FALSE..=kinds::TRUE => slot::pack(kind, 0, 0),
-        kinds::LETTER..=kinds::NOT_LETTER => slot::pack(kind, 0, word::right(w)),
-        kinds::NEXT => next(Rewriting::Recurring, w),
+    match word::kind(w) {
         kinds::WEAK => {
             if chosen {
                 slot::pack(kinds::TRUE, 0, 0)
@@ -63,7 +55,6 @@ pub fn recurring(w: u32, chosen: bool) -> u64
                 operator(Rewriting::Recurring, kinds::STRONG, w)
             }
         }
-        kinds::AND..=kinds::STRONG => operator(Rewriting::Recurring, kind, w),
-        _ => 0,
+        _ => kept(Rewriting::Recurring, w),
     }
 }

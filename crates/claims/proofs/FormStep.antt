@@ -16,7 +16,7 @@ use Rattle.logic.specs.Lasso.{Lasso, word}
 use Rattle.logic.specs.Semantics.{Holds}
 use Rattle.logic.specs.Driven.{Driven}
 use Rattle.logic.specs.Hierarchy.{Δ₂}
-use Rattle.refusals.specs.declared.Outcome.TheVariants.{Accepted}
+use Rattle.std.specs.Prelude.{Ok}
 use Rattle.table.specs.declared.answer.Form.TheVariants.{Source, Made}
 use Rattle.table.specs.declared.settings.Limits.{Limits}
 use Rattle.refusals.specs.Refusals.{first}
@@ -51,7 +51,7 @@ pub not_normal : (t : List ℕ) → is_normal t ≡ false → Δ₂ (rule t) →
 not_normal t n d = true≢false (sym ((normal-exactly t).1 d) ∙ n)
 
 -- an accepted plain table is accepted by every step with a higher limit, whether it takes plain tables only or not
-loosened : (limit : ℕ) (p : List ℕ) → checked true limit p ≡ Accepted → limit ≤ 16383 → (b : Bool) → checked b 16383 p ≡ Accepted
+loosened : (limit : ℕ) (p : List ℕ) → checked true limit p ≡ Ok tt → limit ≤ 16383 → (b : Bool) → checked b 16383 p ≡ Ok tt
 loosened limit p ok small b =
     let f = accepted-well-formed true limit p ok in
     well-formed-accepted b 16383 p (record {
@@ -74,7 +74,7 @@ loosened limit p ok small b =
 -- what is so of the words v of a form of plain words p, made for the rule of the words u
 pub record FormOf (u p v : List ℕ) : Type 1 where
   pub words : v ≡ form_table p
-  pub taken : (b : Bool) → checked b 16383 v ≡ Accepted
+  pub taken : (b : Bool) → checked b 16383 v ≡ Ok tt
   pub holds : (r : Lasso) (i : ℕ) → Holds (word r) (rule v) i ↔ Holds (word r) (rule u) i
   pub class : Δ₂ (rule v)
   pub short : length v ≤ bound (length p) (length (fixpoints p))
@@ -99,7 +99,7 @@ forms {v = v} source q w k = record {
 }
 
 -- the form of an accepted plain table: itself where it is its own form, and the normal form of any other
-module _ (limit : ℕ) (p : List ℕ) (ok : checked true limit p ≡ Accepted) (small : limit ≤ 16383) where
+module _ (limit : ℕ) (p : List ℕ) (ok : checked true limit p ≡ Ok tt) (small : limit ≤ 16383) where
   pub own-form_of : is_normal p ≡ true → FormOf p p p
   own-form_of n = record {
     words = sym (own-form p n);
@@ -125,14 +125,14 @@ pub limited : (l : Limits) → is_permitted l ≡ true → plain_limit l ≤ 163
 limited l p = omega (arith, (permitted l p).written)
 
 module _ (l : Limits) (s : List ℕ) where
-  passes : first ((normal_step l).checks s) ≡ Accepted → (is_permitted l ≡ true) × (headed_checked true (plain_limit l) s ≡ Accepted)
+  passes : first ((normal_step l).checks s) ≡ Ok tt → (is_permitted l ≡ true) × (headed_checked true (plain_limit l) s ≡ Ok tt)
   unfolding headed_checked
   passes e =
       let p = passed_limits l (headed_checks true (plain_limit l) s ++ form_checks l (body s)) e in
       (p.0, ((first_append_both (headed_checks true (plain_limit l) s) (form_checks l (body s))).0 p.1).0)
 
   module _ (slice : List ℕ) (n : ℕ) where
-    pub form-source : form_of l s (length slice) ≡ Source n → OwnForm s slice (result_of (normal_step l) s slice) n
+    pub form-source : form_of l s (length slice) ≡ Ok (Source n) → OwnForm s slice (result_of (normal_step l) s slice) n
     form-source f =
         let q = told.form-source l s slice n f in
         let h = accepted-headed true (plain_limit l) s q.accepted in
@@ -145,7 +145,7 @@ module _ (l : Limits) (s : List ℕ) where
           kept = own-result l s slice q.permitted q.accepted q.normal;
         }
 
-    pub form_made : form_of l s (length slice) ≡ Made n → MadeForm s (result_of (normal_step l) s slice) n
+    pub form_made : form_of l s (length slice) ≡ Ok (Made n) → MadeForm s (result_of (normal_step l) s slice) n
     form_made f =
         let q = told.form_made l s slice n f in
         let both = passes q.made.accepted in

@@ -13,7 +13,7 @@ use Rattle.logic.specs.NegationNormalForm.{plain_binary, is_plain}
 use Rattle.transforms.specs.NormalForm.{normal_form}
 use Rattle.transforms.specs.Folding.{fold}
 use Rattle.logic.proofs.Tests.{T_and}
-use Rattle.refusals.specs.declared.Outcome.TheVariants.{Accepted}
+use Rattle.std.specs.Prelude.{Ok}
 use Rattle.table.specs.Table.{rule}
 use Rattle.table.specs.Checks.{checked}
 use Rattle.table.specs.Steps.{fixpoints, normal_table}
@@ -55,8 +55,8 @@ pub Δ₂-plain : (φ : Formula) → Δ₂ φ → T (is_plain φ)
     second ψ (inl s) = closure_plain first s
     second ψ (inr p) = closure_plain first p
 
-module _ (limit : ℕ) (t : List ℕ) (ok : checked true limit t ≡ Accepted) (small : limit ≤ 16383) (short : length (normal_table t) ≤ 16383) where
-  pub normal-plain : (plain_only : Bool) → checked plain_only 16383 (normal_table t) ≡ Accepted
+module _ (limit : ℕ) (t : List ℕ) (ok : checked true limit t ≡ Ok tt) (small : limit ≤ 16383) (short : length (normal_table t) ≤ 16383) where
+  pub normal-plain : (plain_only : Bool) → checked plain_only 16383 (normal_table t) ≡ Ok tt
   unfolding normal_table
   normal-plain b =
       let plain : T (is_plain (fold (normal_form (fixpoints t) (rule t)))) =

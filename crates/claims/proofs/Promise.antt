@@ -11,11 +11,10 @@ use lib.ListN.{length, take, drop}
 use borrow.Author.Tests.{le-leb}
 use Rattle.refusals.specs.declared.Refusal.{Refusal}
 use Rattle.refusals.specs.declared.Refusal.TheVariants.{ResultTooShort}
-use Rattle.refusals.specs.declared.Outcome.{Outcome}
-use Rattle.refusals.specs.declared.Outcome.TheVariants as outcome
-use Rattle.table.specs.declared.answer.Answer.{Answer}
-use Rattle.table.specs.declared.answer.Answer.TheVariants.{Made, Refused}
-use Rattle.table.specs.declared.answer.Form.{Form}
+use Rattle.refusals.specs.Refusals.{Outcome}
+use Rattle.std.specs.Prelude.{Ok, Err}
+use Rattle.table.specs.Answers.{Answer}
+use Rattle.table.specs.Answers.{FormAnswer}
 use Rattle.table.specs.declared.answer.Form.TheVariants as formed
 use Rattle.table.specs.declared.settings.Limits.{Limits}
 use Rattle.refusals.specs.Refusals.{Check, first, number_of}
@@ -37,16 +36,16 @@ use Rattle.claims.specs.Claim.{Kept, TooLong, whole_checks, Claim}
 use Rattle.claims.proofs.FormStep.{fitting-few, not_normal, FormOf, forms, own-form_of, other_form_of, limited}
 
 -- no two answers at once
-never : {A : Type 0} (r : Refusal) (n : ℕ) → Refused r ≡ Made n → A
+never : {A : Type 0} (r : Refusal) (n : ℕ) → Err r ≡ Ok n → A
 never r n e = absurd (let z : ◌≡◌ {A = ℕ} 0 1 = cc in omega arith)
 
-refused-source : {A : Type 0} {r : Refusal} {n : ℕ} → formed.Refused r ≡ formed.Source n → A
+refused-source : {A : Type 0} {r : Refusal} {n : ℕ} → Err r ≡ Ok (formed.Source n) → A
 refused-source e = absurd (true≢false (sym (ap is_source e)))
 
-refused_made : {A : Type 0} {r : Refusal} {n : ℕ} → formed.Refused r ≡ formed.Made n → A
+refused_made : {A : Type 0} {r : Refusal} {n : ℕ} → Err r ≡ Ok (formed.Made n) → A
 refused_made e = absurd (let z : ◌≡◌ {A = ℕ} 0 1 = cc in omega arith)
 
-same_refusal : (r s : Refusal) → formed.Refused r ≡ formed.Refused s → r ≡ s
+same_refusal : (r s : Refusal) → ◌≡◌ {A = FormAnswer} (Err r) (Err s) → r ≡ s
 same_refusal r s e = cc
 
 -- a form's number is that of the step's answer
@@ -55,12 +54,12 @@ unfolding form_of
 form_number_lem l s slice = go (answer_of (normal_step l) s slice) (is_normal (body s))
   where
     go : (a : Answer) (b : Bool) → form_number (form_by a b (length s)) ≡ answer_number a
-    go (Made n) true = refl
-    go (Made n) false = refl
-    go (Refused r) b = refl
+    go (Ok n) true = refl
+    go (Ok n) false = refl
+    go (Err r) b = refl
 
 -- the part of the plain form's slice that is handed on: it lies within the slice, and is the plain form's table with its header
-module _ (l : Limits) (t before after : List ℕ) (n : ℕ) (e : answer_of (plain_step l) t (length before) ≡ Made n) where
+module _ (l : Limits) (t before after : List ℕ) (n : ℕ) (e : answer_of (plain_step l) t (length before) ≡ Ok n) where
   pub within : length after ≡ length before → n ≤ length after
   within k = omega (arith, fitting-few n (length before) (answered (plain_step l) t before n e).fitting)
 
@@ -80,20 +79,20 @@ module _ (l : Limits) (t plain form : List ℕ) where
   until_checks = form_checks l (plain_table (body t))
 
   -- by permitted limits the plain form of an accepted table is accepted by the normal-form step
-  module _ (p : is_permitted l ≡ true) (ok : headed_checked false l.written t ≡ outcome.Accepted) where
+  module _ (p : is_permitted l ≡ true) (ok : headed_checked false l.written t ≡ Ok tt) where
     small : l.written ≤ 8190
     small = omega (arith, (permitted l p).written)
 
-    written-words : checked false l.written (body t) ≡ outcome.Accepted
+    written-words : checked false l.written (body t) ≡ Ok tt
     written-words = (accepted-headed false l.written t ok).words
 
-    next_words : checked true (plain_limit l) (plain_table (body t)) ≡ outcome.Accepted
+    next_words : checked true (plain_limit l) (plain_table (body t)) ≡ Ok tt
     next_words = plain-accepted l.written (body t) written-words small true (plain_limit l) (omega arith) (limited l p)
 
-    next_accepted : headed_checked true (plain_limit l) u ≡ outcome.Accepted
+    next_accepted : headed_checked true (plain_limit l) u ≡ Ok tt
     next_accepted = headed-accepted true (plain_limit l) (plain_table (body t)) (limited l p) next_words
 
-    passed : first ((plain_step l).checks t) ≡ outcome.Accepted
+    passed : first ((plain_step l).checks t) ≡ Ok tt
     unfolding headed_checked
     passed = permitted-checks l written_checks p ∙ ok
 
@@ -112,39 +111,39 @@ module _ (l : Limits) (t plain form : List ℕ) where
     })
 
   -- and that is so where the plain-form step's checks pass
-  passes : first ((plain_step l).checks t) ≡ outcome.Accepted → (is_permitted l ≡ true) × (headed_checked false l.written t ≡ outcome.Accepted)
+  passes : first ((plain_step l).checks t) ≡ Ok tt → (is_permitted l ≡ true) × (headed_checked false l.written t ≡ Ok tt)
   unfolding headed_checked
   passes = passed_limits l written_checks
 
   -- the answer and the slice, by the answer of the plain-form step
-  whole_refused : (r : Refusal) → answer_of (plain_step l) t (length plain) ≡ Refused r
-      → (whole_form l t (length plain) (length form) ≡ formed.Refused r) × (whole_result l t (length plain) form ≡ form)
+  whole_refused : (r : Refusal) → answer_of (plain_step l) t (length plain) ≡ Err r
+      → (whole_form l t (length plain) (length form) ≡ Err r) × (whole_result l t (length plain) form ≡ form)
   unfolding whole_form whole_result
   whole_refused r e = (ap (λ (a : Answer). form_after a l t (length form)) e, ap (λ (a : Answer). result_after a l t form) e)
 
-  whole_made : (n : ℕ) → answer_of (plain_step l) t (length plain) ≡ Made n
+  whole_made : (n : ℕ) → answer_of (plain_step l) t (length plain) ≡ Ok n
       → (whole_form l t (length plain) (length form) ≡ form_of l u (length form))
       × (whole_result l t (length plain) form ≡ result_of (normal_step l) u form)
   unfolding whole_form whole_result
   whole_made n e = (ap (λ (a : Answer). form_after a l t (length form)) e, ap (λ (a : Answer). result_after a l t form) e)
 
   -- an answered form is told by the normal-form step, of a plain form that was made
-  told-source : (n : ℕ) → whole_form l t (length plain) (length form) ≡ formed.Source n → (m : ℕ) × (answer_of (plain_step l) t (length plain) ≡ Made m) × Own l u form n
+  told-source : (n : ℕ) → whole_form l t (length plain) (length form) ≡ Ok (formed.Source n) → (m : ℕ) × (answer_of (plain_step l) t (length plain) ≡ Ok m) × Own l u form n
   told-source n f = by_plain (answer_of (plain_step l) t (length plain)) refl
     where
-      by_plain : (p : Answer) → answer_of (plain_step l) t (length plain) ≡ p → (m : ℕ) × (answer_of (plain_step l) t (length plain) ≡ Made m) × Own l u form n
-      by_plain (Refused r) e = refused-source (sym (whole_refused r e).0 ∙ f)
-      by_plain (Made m) e = (m, e, form-source l u form n (sym (whole_made m e).0 ∙ f))
+      by_plain : (p : Answer) → answer_of (plain_step l) t (length plain) ≡ p → (m : ℕ) × (answer_of (plain_step l) t (length plain) ≡ Ok m) × Own l u form n
+      by_plain (Err r) e = refused-source (sym (whole_refused r e).0 ∙ f)
+      by_plain (Ok m) e = (m, e, form-source l u form n (sym (whole_made m e).0 ∙ f))
 
-  told_made : (n : ℕ) → whole_form l t (length plain) (length form) ≡ formed.Made n → (m : ℕ) × (answer_of (plain_step l) t (length plain) ≡ Made m) × Other l u form n
+  told_made : (n : ℕ) → whole_form l t (length plain) (length form) ≡ Ok (formed.Made n) → (m : ℕ) × (answer_of (plain_step l) t (length plain) ≡ Ok m) × Other l u form n
   told_made n f = by_plain (answer_of (plain_step l) t (length plain)) refl
     where
-      by_plain : (p : Answer) → answer_of (plain_step l) t (length plain) ≡ p → (m : ℕ) × (answer_of (plain_step l) t (length plain) ≡ Made m) × Other l u form n
-      by_plain (Refused r) e = refused_made (sym (whole_refused r e).0 ∙ f)
-      by_plain (Made m) e = (m, e, form_made l u form n (sym (whole_made m e).0 ∙ f))
+      by_plain : (p : Answer) → answer_of (plain_step l) t (length plain) ≡ p → (m : ℕ) × (answer_of (plain_step l) t (length plain) ≡ Ok m) × Other l u form n
+      by_plain (Err r) e = refused_made (sym (whole_refused r e).0 ∙ f)
+      by_plain (Ok m) e = (m, e, form_made l u form n (sym (whole_made m e).0 ∙ f))
 
   -- it is the plain form where it stands, or the form that was made
-  kept_source : (n : ℕ) → whole_form l t (length plain) (length form) ≡ formed.Source n → Kept t (result_of (plain_step l) t plain) n
+  kept_source : (n : ℕ) → whole_form l t (length plain) (length form) ≡ Ok (formed.Source n) → Kept t (result_of (plain_step l) t plain) n
   kept_source n f =
       let (m, e, q) = told-source n f in
       let a = answered (plain_step l) t plain m e in
@@ -152,7 +151,7 @@ module _ (l : Limits) (t plain form : List ℕ) where
       let k : n ≡ m = q.long ∙ sym a.long in
       keeps both.0 both.1 (own-form_of (plain_limit l) (plain_table (body t)) (next_words both.0 both.1) (limited l both.0) q.normal) (rw k a.front) q.long
 
-  kept_made : (n : ℕ) → whole_form l t (length plain) (length form) ≡ formed.Made n → Kept t (whole_result l t (length plain) form) n
+  kept_made : (n : ℕ) → whole_form l t (length plain) (length form) ≡ Ok (formed.Made n) → Kept t (whole_result l t (length plain) form) n
   kept_made n f =
       let (m, e, q) = told_made n f in
       let both = passes (answered (plain_step l) t plain m e).accepted in
@@ -167,19 +166,19 @@ module _ (l : Limits) (t plain form : List ℕ) where
   unfit_other true n f = absurd (true≢false (sym (le-leb 0 (min (length form) 16384) (omega arith)) ∙ (rw (own-makes l u n) at f)))
 
   too_long : form_number (whole_form l t (length plain) (length form)) ≡ 12 → (p : Answer) → answer_of (plain_step l) t (length plain) ≡ p
-      → (is_permitted l ≡ true) × (headed_checked false l.written t ≡ outcome.Accepted) × TooLong l t (length plain) (length form)
-  too_long a (Refused r) e =
+      → (is_permitted l ≡ true) × (headed_checked false l.written t ≡ Ok tt) × TooLong l t (length plain) (length form)
+  too_long a (Err r) e =
       let b = (refused_for_length (plain_step l) (plain-early l) t plain).0 (ap answer_number e ∙ sym (ap form_number (whole_refused r e).0) ∙ a) in
       let q = passes b.0 in
       (q.0, q.1, inl b.1)
-  too_long a (Made m) e =
+  too_long a (Ok m) e =
       let p = answered (plain_step l) t plain m e in
       let q = passes p.accepted in
       let b = (refused_for_length (normal_step l) (normal-early l) u form).0 (sym (form_number_lem l u (length form)) ∙ sym (ap form_number (whole_made m e).0) ∙ a) in
       let other = unfit_other (is_normal (plain_table (body t))) refl b.1 in
       (q.0, q.1, inr (rw (← p.long) p.fitting, other, sym (ap first (other_checks l u other)) ∙ sym (next_checks q.0 q.1) ∙ b.0, rw (other_makes l u other) at b.1))
 
-  unfit : is_permitted l ≡ true → headed_checked false l.written t ≡ outcome.Accepted → TooLong l t (length plain) (length form)
+  unfit : is_permitted l ≡ true → headed_checked false l.written t ≡ Ok tt → TooLong l t (length plain) (length form)
       → form_number (whole_form l t (length plain) (length form)) ≡ 12
   unfit p ok (inl f) = ap form_number (whole_refused ResultTooShort (too_long-answer (plain_step l) t plain (passed p ok) f)).0
   unfit p ok (inr q) =
@@ -188,46 +187,46 @@ module _ (l : Limits) (t plain form : List ℕ) where
       ∙ (refused_for_length (normal_step l) (normal-early l) u form).1 (next_checks p ok ∙ ap first (other_checks l u q.1) ∙ q.2, rw (other_makes l u q.1) q.3)
 
   -- the check table is that of the plain-form step, and then that of its plain form
-  whole_refusal : (q : Refusal) → first ((plain_step l).checks t) ≡ outcome.Refused q → first (whole_checks l t) ≡ outcome.Refused q
+  whole_refusal : (q : Refusal) → first ((plain_step l).checks t) ≡ Err q → first (whole_checks l t) ≡ Err q
   unfolding limit_checks
   whole_refusal q = first_append-refused ((plain_step l).checks t) until_checks q
 
-  whole_passed : first ((plain_step l).checks t) ≡ outcome.Accepted → first (whole_checks l t) ≡ first until_checks
+  whole_passed : first ((plain_step l).checks t) ≡ Ok tt → first (whole_checks l t) ≡ first until_checks
   unfolding limit_checks
   whole_passed = first_append-accepted ((plain_step l).checks t) until_checks
 
   -- any other refusal is that of the first check that applies
-  module _ (r : Refusal) (a : whole_form l t (length plain) (length form) ≡ formed.Refused r) (s : number_of r ≡ 12 → ⊥) where
-    module _ (p : is_permitted l ≡ true) (ok : headed_checked false l.written t ≡ outcome.Accepted) where
-      by_until : form_of l u (length form) ≡ formed.Refused r → (o : Outcome) → first until_checks ≡ o → first until_checks ≡ outcome.Refused r
-      by_until b (outcome.Refused q) c =
-          c ∙ ap outcome.Refused (same_refusal q r (sym ((form-refused l u form q).1 (refused-answer (normal_step l) u form q (next_checks p ok ∙ c))) ∙ b))
-      by_until b outcome.Accepted c = absurd (s (last (result_fits (length ((normal_step l).makes u)) (length form)) refl))
+  module _ (r : Refusal) (a : whole_form l t (length plain) (length form) ≡ Err r) (s : number_of r ≡ 12 → ⊥) where
+    module _ (p : is_permitted l ≡ true) (ok : headed_checked false l.written t ≡ Ok tt) where
+      by_until : form_of l u (length form) ≡ Err r → (o : Outcome) → first until_checks ≡ o → first until_checks ≡ Err r
+      by_until b (Err q) c =
+          c ∙ ap Err (same_refusal q r (sym ((form-refused l u form q).1 (refused-answer (normal_step l) u form q (next_checks p ok ∙ c))) ∙ b))
+      by_until b (Ok tt) c = absurd (s (last (result_fits (length ((normal_step l).makes u)) (length form)) refl))
         where
           last : (f : Bool) → result_fits (length ((normal_step l).makes u)) (length form) ≡ f → number_of r ≡ 12
           last true f = never r _ (sym ((form-refused l u form r).0 b) ∙ made_answer (normal_step l) u form (next_checks p ok ∙ c) f)
           last false f = sym (ap answer_number ((form-refused l u form r).0 b)) ∙ (refused_for_length (normal_step l) (normal-early l) u form).1 (next_checks p ok ∙ c, f)
 
-      by_fit : (f : Bool) → result_fits (length u) (length plain) ≡ f → first until_checks ≡ outcome.Refused r
+      by_fit : (f : Bool) → result_fits (length u) (length plain) ≡ f → first until_checks ≡ Err r
       by_fit false f = absurd (s (sym (ap form_number a) ∙ unfit p ok (inl f)))
       by_fit true f = by_until (sym (whole_made (length u) (made_answer (plain_step l) t plain (passed p ok) f)).0 ∙ a) (first until_checks) refl
 
-    by_checks : (o : Outcome) → first ((plain_step l).checks t) ≡ o → first (whole_checks l t) ≡ outcome.Refused r
-    by_checks (outcome.Refused q) e =
-        whole_refusal q e ∙ ap outcome.Refused (same_refusal q r (sym (whole_refused q (refused-answer (plain_step l) t plain q e)).0 ∙ a))
-    by_checks outcome.Accepted e = let both = passes e in whole_passed e ∙ by_fit both.0 both.1 (result_fits (length u) (length plain)) refl
+    by_checks : (o : Outcome) → first ((plain_step l).checks t) ≡ o → first (whole_checks l t) ≡ Err r
+    by_checks (Err q) e =
+        whole_refusal q e ∙ ap Err (same_refusal q r (sym (whole_refused q (refused-answer (plain_step l) t plain q e)).0 ∙ a))
+    by_checks (Ok tt) e = let both = passes e in whole_passed e ∙ by_fit both.0 both.1 (result_fits (length u) (length plain)) refl
 
   -- the check table's refusal is the answer
-  until-refusal : (r : Refusal) → first until_checks ≡ outcome.Refused r → (b : Bool) → is_normal (plain_table (body t)) ≡ b → number_of r ≡ 11
+  until-refusal : (r : Refusal) → first until_checks ≡ Err r → (b : Bool) → is_normal (plain_table (body t)) ≡ b → number_of r ≡ 11
   until-refusal r c true n = let e = sym (ap first (own-checks l u n)) ∙ c in absurd (let z : ◌≡◌ {A = ℕ} 0 1 = cc in omega arith)
   until-refusal r c false n = fixpoint-refusal l.fixpoints (plain_table (body t)) r (sym (ap first (other_checks l u n)) ∙ c)
 
-  module _ (r : Refusal) (c : first (whole_checks l t) ≡ outcome.Refused r) (k : number_of r ≡ 11 → result_fits (length u) (length plain) ≡ true) where
-    refuses : (o : Outcome) → first ((plain_step l).checks t) ≡ o → whole_form l t (length plain) (length form) ≡ formed.Refused r
-    refuses (outcome.Refused q) e = let d = whole_refusal q e in (whole_refused q (refused-answer (plain_step l) t plain q e)).0 ∙ ap formed.Refused (cc)
-    refuses outcome.Accepted e =
+  module _ (r : Refusal) (c : first (whole_checks l t) ≡ Err r) (k : number_of r ≡ 11 → result_fits (length u) (length plain) ≡ true) where
+    refuses : (o : Outcome) → first ((plain_step l).checks t) ≡ o → whole_form l t (length plain) (length form) ≡ Err r
+    refuses (Err q) e = let d = whole_refusal q e in (whole_refused q (refused-answer (plain_step l) t plain q e)).0 ∙ ap Err (cc)
+    refuses (Ok tt) e =
         let both = passes e in
-        let d : first until_checks ≡ outcome.Refused r = sym (whole_passed e) ∙ c in
+        let d : first until_checks ≡ Err r = sym (whole_passed e) ∙ c in
         (whole_made (length u) (made_answer (plain_step l) t plain e (k (until-refusal r d (is_normal (plain_table (body t))) refl)))).0
         ∙ (form-refused l u form r).1 (refused-answer (normal_step l) u form r (next_checks both.0 both.1 ∙ d))
 
@@ -246,16 +245,16 @@ module _ (l : Limits) (t plain form : List ℕ) where
     checks_refuse = λ r c k. refuses r c k (first ((plain_step l).checks t)) refl;
   }
 
-  claimed : {plain' form' : List ℕ} {f : Form} → f ≡ whole_form l t (length plain) (length form) → plain' ≡ result_of (plain_step l) t plain
+  claimed : {plain' form' : List ℕ} {f : FormAnswer} → f ≡ whole_form l t (length plain) (length form) → plain' ≡ result_of (plain_step l) t plain
       → form' ≡ whole_result l t (length plain) form → Claim l t plain plain' form form' f
   claimed e f g = rw (e, f, g) claim
 
   -- so of a call, by the answer of the plain-form step
-  pub claimed-refused : {r : Refusal} {plain' : List ℕ} → answer_of (plain_step l) t (length plain) ≡ Refused r → plain' ≡ result_of (plain_step l) t plain
-      → Claim l t plain plain' form form (formed.Refused r)
+  pub claimed-refused : {r : Refusal} {plain' : List ℕ} → answer_of (plain_step l) t (length plain) ≡ Err r → plain' ≡ result_of (plain_step l) t plain
+      → Claim l t plain plain' form form (Err r)
   claimed-refused {r} e f = let w = whole_refused r e in claimed (sym w.0) f (sym w.1)
 
-  pub claimed_made : {n : ℕ} {plain' form' : List ℕ} {f : Form} → answer_of (plain_step l) t (length plain) ≡ Made n → plain' ≡ result_of (plain_step l) t plain
+  pub claimed_made : {n : ℕ} {plain' form' : List ℕ} {f : FormAnswer} → answer_of (plain_step l) t (length plain) ≡ Ok n → plain' ≡ result_of (plain_step l) t plain
       → f ≡ form_of l (take (n - 0) (drop 0 plain')) (length form) → form' ≡ result_of (normal_step l) (take (n - 0) (drop 0 plain')) form
       → Claim l t plain plain' form form' f
   claimed_made {n} {plain'} e f g h =

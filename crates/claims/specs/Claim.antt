@@ -3,9 +3,9 @@
 use Rattle.std.specs.Prelude.{ℕ, ◌≡◌, ◌↔◌, ◌⊎◌, true, false, List, ◌++◌, length}
 use Rattle.logic.specs.Hierarchy.{Δ₂}
 use Rattle.refusals.specs.declared.Refusal.{Refusal}
-use Rattle.refusals.specs.declared.Outcome.TheVariants as outcome
-use Rattle.table.specs.declared.answer.Form.{Form}
-use Rattle.table.specs.declared.answer.Form.TheVariants.{Source, Made, Refused}
+use Rattle.std.specs.Prelude.{Ok, Err}
+use Rattle.table.specs.Answers.{FormAnswer}
+use Rattle.table.specs.declared.answer.Form.TheVariants.{Source, Made}
 use Rattle.table.specs.declared.settings.Limits.{Limits}
 use Rattle.refusals.specs.Refusals.{Check, first, number_of}
 use Rattle.table.specs.Header.{headed, body, headed_checks, headed_checked}
@@ -28,28 +28,28 @@ TooLong l t plainSlice formSlice =
     (result_fits (length (headed (plain_table (body t)))) plainSlice ≡ false)
     ⊎ ((result_fits (length (headed (plain_table (body t)))) plainSlice ≡ true)
     × (is_normal (plain_table (body t)) ≡ false)
-    × (first (fixpoint_checks l.fixpoints 1 (plain_table (body t))) ≡ outcome.Accepted)
+    × (first (fixpoint_checks l.fixpoints 1 (plain_table (body t))) ≡ Ok tt)
     × (result_fits (length (headed (normal_table (plain_table (body t))))) formSlice ≡ false))
 
 -- the check table of the whole way: 25 of the limits, 1, 2, 23, 3 to 10 and 24 of the written table, then 11 of its plain form, where that is not its own form
 abbrev pub whole_checks : Limits → List ℕ → List Check
 whole_checks l t = limit_checks l ++ (headed_checks false l.written t ++ form_checks l (plain_table (body t)))
 
-pub record Claim (l : Limits) (t plain plain' form form' : List ℕ) (f : Form) : Type 0 where
+pub record Claim (l : Limits) (t plain plain' form form' : List ℕ) (f : FormAnswer) : Type 0 where
   -- the whole reply, and what both slices hold
   pub answer : f ≡ whole_form l t (length plain) (length form)
   pub plain_slice : plain' ≡ result_of (plain_step l) t plain
   pub form_slice : form' ≡ whole_result l t (length plain) form
   -- of an answered form, which stands where the plain form does, if that lies in Delta-2, or in the other slice, if it does not
-  pub kept_source : (n : ℕ) → f ≡ Source n → Kept t plain' n
-  pub own_source : (n : ℕ) → f ≡ Source n → Δ₂ (rule (plain_table (body t)))
-  pub kept_made : (n : ℕ) → f ≡ Made n → Kept t form' n
-  pub other_made : (n : ℕ) → f ≡ Made n → Δ₂ (rule (plain_table (body t))) → ⊥
+  pub kept_source : (n : ℕ) → f ≡ Ok (Source n) → Kept t plain' n
+  pub own_source : (n : ℕ) → f ≡ Ok (Source n) → Δ₂ (rule (plain_table (body t)))
+  pub kept_made : (n : ℕ) → f ≡ Ok (Made n) → Kept t form' n
+  pub other_made : (n : ℕ) → f ≡ Ok (Made n) → Δ₂ (rule (plain_table (body t))) → ⊥
   -- 12 exactly when the limits are permitted, the checks of the written table pass, and a form does not fit its slice
   pub refused_for_length : (form_number f ≡ 12)
-      ↔ ((is_permitted l ≡ true) × (headed_checked false l.written t ≡ outcome.Accepted) × TooLong l t (length plain) (length form))
+      ↔ ((is_permitted l ≡ true) × (headed_checked false l.written t ≡ Ok tt) × TooLong l t (length plain) (length form))
   -- every other refusal is that of the check table, and that of the check table is the answer: 11 where the plain form fits its slice, since 12 is otherwise
   -- answered before it
-  pub refused_by_checks : (r : Refusal) → f ≡ Refused r → (number_of r ≡ 12 → ⊥) → first (whole_checks l t) ≡ outcome.Refused r
-  pub checks_refuse : (r : Refusal) → first (whole_checks l t) ≡ outcome.Refused r
-      → (number_of r ≡ 11 → result_fits (length (headed (plain_table (body t)))) (length plain) ≡ true) → f ≡ Refused r
+  pub refused_by_checks : (r : Refusal) → f ≡ Err r → (number_of r ≡ 12 → ⊥) → first (whole_checks l t) ≡ Err r
+  pub checks_refuse : (r : Refusal) → first (whole_checks l t) ≡ Err r
+      → (number_of r ≡ 11 → result_fits (length (headed (plain_table (body t)))) (length plain) ≡ true) → f ≡ Err r

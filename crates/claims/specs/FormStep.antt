@@ -5,7 +5,7 @@ use Rattle.logic.specs.Lasso.{Lasso, word}
 use Rattle.logic.specs.Driven.{Drives}
 use Rattle.logic.specs.Semantics.{Holds}
 use Rattle.logic.specs.Hierarchy.{Δ₂}
-use Rattle.refusals.specs.declared.Outcome.TheVariants.{Accepted}
+use Rattle.std.specs.Prelude.{Ok}
 use Rattle.refusals.specs.Refusals.{first}
 use Rattle.table.specs.Header.{headed, body, headed_checked}
 use Rattle.table.specs.Limits.{most_words}
@@ -30,9 +30,9 @@ pub record Formed (t p form : List ℕ) (n : ℕ) : Type 0 where
   pub short : length (body (take n form)) ≤ bound (length p) (length (fixpoints p))
   pub letters : (m : ℕ) → Lacks m (rule (body t)) → Lacks m (rule (body (take n form)))
   pub drives : (r : Lasso) → Drives r (rule (body t)) → Drives r (rule (body (take n form)))
-  pub accepted : headed_checked false most_words (take n form) ≡ Accepted
-  pub plain : headed_checked true most_words (take n form) ≡ Accepted
-  pub driven : (k : ℕ) → first (letter_checks k 1 (body t)) ≡ Accepted → first (letter_checks k 1 (body (take n form))) ≡ Accepted
+  pub accepted : headed_checked false most_words (take n form) ≡ Ok tt
+  pub plain : headed_checked true most_words (take n form) ≡ Ok tt
+  pub driven : (k : ℕ) → first (letter_checks k 1 (body t)) ≡ Ok tt → first (letter_checks k 1 (body (take n form))) ≡ Ok tt
 
 -- n words were made of a source s: it does not lie in Delta-2, and its form stands at the front of the slice
 pub record MadeForm (s slice : List ℕ) (n : ℕ) : Type 0 where

@@ -11,7 +11,7 @@ use Rattle.logic.specs.ClassByte.{class_byte}
 use Rattle.logic.specs.ClassStep.{next_byte}
 use Rattle.table.specs.Node.{kind, left, right, shape}
 use Rattle.table.specs.Table.{formula_of, formulas}
-use Rattle.refusals.specs.declared.Outcome.TheVariants.{Accepted}
+use Rattle.std.specs.Prelude.{Ok}
 use Rattle.table.specs.Checks.{checked}
 use Rattle.table.specs.Steps.{class_bytes}
 use Rattle.table.proofs.Formulas.{length-formulas, formula_of-word}
@@ -38,7 +38,7 @@ class_bytes_at t j h =
     ∙ get_or-map class_byte (formulas t) j (const false)
 
 -- the words of a plain table that the checks 1 to 10 accept
-pub accepted-plain : (limit : ℕ) (t : List ℕ) → checked true limit t ≡ Accepted → PlainWords t
+pub accepted-plain : (limit : ℕ) (t : List ℕ) → checked true limit t ≡ Ok tt → PlainWords t
 accepted-plain limit t e j h =
     let f = (accepted-well-formed true limit t e).word j h in
     record { kinded = f.kinded; plain = f.plain refl; operand_left = f.operand_left; operand_right = f.operand_right }

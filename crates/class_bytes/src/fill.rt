@@ -36,9 +36,8 @@ pub fn fill(table: &[u32], bytes: &mut [u8])
     requires { PlainWords table.now × (length table.now ≤ length bytes.old) }
     ensures { bytes.new ≡ class_bytes table.now ++ drop (length table.now) bytes.old }
 {
-    let mut i = 0;
-    while i < table.len() {
+    // By index: a word's operands are read from the bytes before it.
+    for i in 0..table.len() {
         bytes[i] = byte_at(table, bytes, i);
-        i += 1;
     }
 }

@@ -8,15 +8,15 @@ use lib.ListN.{length, get_or, drop, get_or-append}
 use Rattle.logic.specs.Hierarchy.{Class}
 use Rattle.logic.specs.ClassByte.{class_byte}
 use Rattle.logic.proofs.Hierarchy.ClassBit.{class_bit, class_byte_lt}
-use Rattle.refusals.specs.declared.Outcome.{Outcome}
-use Rattle.refusals.specs.declared.Outcome.TheVariants.{Accepted}
+use Rattle.refusals.specs.Refusals.{Outcome}
+use Rattle.std.specs.Prelude.{Ok}
 use Rattle.table.specs.Table.{formula_of, formulas}
 use Rattle.table.specs.Header.{body}
 use Rattle.table.specs.Steps.{class_bytes}
 use Rattle.table.specs.Frame.{class_step, outcome_of, result_by, result_of}
 use Rattle.class_bytes.proofs.Words.{length-class_bytes, class_bytes_at}
 
-module _ (s bytes : List ℕ) (accepted : outcome_of class_step s (length bytes) ≡ Accepted) (j : ℕ) (h : j < length (body s)) where
+module _ (s bytes : List ℕ) (accepted : outcome_of class_step s (length bytes) ≡ Ok tt) (j : ℕ) (h : j < length (body s)) where
   -- the byte at index j is the class byte of word number j + 1, counted after the header
   pub byte_of_word : get_or (result_of class_step s bytes) j 0 ≡ class_byte (formula_of (formulas (body s)) (suc j))
   unfolding result_of formula_of

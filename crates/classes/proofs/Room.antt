@@ -6,7 +6,7 @@ use mathlib.Core.List.{List, ◌++◌}
 use native.Mathlib.Omega.{arith}
 use lib.ListN.{length, take, drop, length-drop}
 use borrow.Author.Tests.{le-leb, lt-leb}
-use Rattle.refusals.specs.declared.Outcome.TheVariants.{Accepted}
+use Rattle.std.specs.Prelude.{Ok}
 use Rattle.table.specs.Header.{body, headed_checked}
 use Rattle.table.specs.StepChecks.{result_fits}
 use Rattle.table.specs.Steps.{class_bytes}
@@ -19,7 +19,7 @@ use Rattle.class_bytes.proofs.Words.{length-class_bytes, accepted-plain}
 use Rattle.heading.proofs.Order.{whole_body}
 
 -- the words of s are the part of it that stands after its header
-module _ (s : List ℕ) (ok : headed_checked true 16383 s ≡ Accepted) where
+module _ (s : List ℕ) (ok : headed_checked true 16383 s ≡ Ok tt) where
   words : WellFormed true 16383 (body s)
   words = accepted-well-formed true 16383 (body s) (accepted-headed true 16383 s ok).words
 

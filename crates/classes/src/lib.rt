@@ -5,21 +5,17 @@ ghost use Rattle.std.specs.Prelude.{◌≡◌, length};
 ghost use Rattle.table.specs.Frame.{class_step, outcome_of, result_of};
 
 use class_bytes::fill;
-use refusals::{Outcome, Refusal};
+use refusals::Refusal;
 
-pub fn classify(table: &[u32], bytes: &mut [u8]) -> Outcome
+pub fn classify(table: &[u32], bytes: &mut [u8]) -> Result<(), Refusal>
     ensures value { result ≡ outcome_of class_step table.now (length bytes.old) }
     ensures bytes_after { bytes.new ≡ result_of class_step table.now bytes.old }
 {
-    match heading::check(table, true, 16383) {
-        Outcome::Refused(r) => Outcome::Refused(r),
-        Outcome::Accepted => {
-            if bytes.len() < table.len() - 1 {
-                byte_clearing::bytes(bytes);
-                return Outcome::Refused(Refusal::ResultTooShort);
-            }
-            fill::fill(&table[1..], bytes);
-            Outcome::Accepted
-        }
+    heading::check(table, true, 16383)?;
+    if bytes.len() < table.len() - 1 {
+        bytes.fill(0);
+        return Err(Refusal::ResultTooShort);
     }
+    fill::fill(&table[1..], bytes);
+    Ok(())
 }

@@ -2,6 +2,7 @@
 #![tactic(auto)]
 
 ghost use Rattle.logic.specs.Formula.{Formula};
+ghost use Rattle.table.specs.Answers.{OrNone};
 ghost use Rattle.table.specs.Numbering.{build};
 ghost use Rattle.placing.specs.State.{State, state, written, Numbered, Placing};
 ghost use Rattle.sums.specs.Summed.{Summed};
@@ -10,18 +11,19 @@ use placing::put;
 use sums::Sum;
 use table::kinds;
 
-// The number of a sum of all parts, 0 where there is no room for it. One of false parts only is the word false.
-pub fn close(sum: Sum, out: &mut [u32], index: &mut [u16]) -> usize
+// The number of a sum of all parts, none where there is no room for it. One of false parts only is the word false.
+pub fn close(sum: Sum, out: &mut [u32], index: &mut [u16]) -> Option<usize>
     requires { Numbered (state out.old index.old) }
-    ensures { (s₀ : State) (χ : Formula) → Summed s₀ (state out.old index.old) χ sum → Placing
+    ensures { (s₀ : State) (χ : Formula) → Summed s₀ (state out.old index.old) χ sum → OrNone
+        (λ n. Placing
         s₀
         (state out.new index.new)
         (build (written s₀) χ)
+        n)
         result }
 {
     match sum {
-        Sum::Nothing => put::put(out, index, word::pack(kinds::FALSE, 0, 0)),
-        Sum::Full => 0,
-        Sum::At(n) => n,
+        None => put::put(out, index, word::pack(kinds::FALSE, 0, 0)),
+        Some(n) => Some(n),
     }
 }

@@ -6,24 +6,24 @@ ghost use Rattle.refusals.specs.Refusals.{first};
 ghost use Rattle.judge_conditions.specs.Checks.{recording_checks};
 ghost use Rattle.agreement.specs.Comparing as comparing;
 
-use agreement::answer::Comparison;
 use differing::first_difference;
 use recording_checks::check_recording;
-use refusals::{Outcome, Refusal};
+use refusals::Refusal;
 
 // 13 to 15 and 22 of the second recording, then 27.
-fn check_second(samples: usize, start: usize, driven: usize, first_driven: usize) -> Outcome
+fn check_second(
+    samples: usize,
+    start: usize,
+    driven: usize,
+    first_driven: usize,
+) -> Result<(), Refusal>
     ensures { result ≡ first (recording_checks samples start driven ++ comparing.count_checks first_driven driven) }
 {
-    match check_recording(samples, start, driven) {
-        Outcome::Refused(why) => Outcome::Refused(why),
-        Outcome::Accepted => {
-            if first_driven == driven {
-                Outcome::Accepted
-            } else {
-                Outcome::Refused(Refusal::DrivenCountsDiffer)
-            }
-        }
+    check_recording(samples, start, driven)?;
+    if first_driven == driven {
+        Ok(())
+    } else {
+        Err(Refusal::DrivenCountsDiffer)
     }
 }
 
@@ -35,13 +35,11 @@ fn check_both(
     others: usize,
     other_start: usize,
     other_driven: usize,
-) -> Outcome
+) -> Result<(), Refusal>
     ensures { result ≡ first (comparing.comparison_checks samples start driven others other_start other_driven) }
 {
-    match check_recording(samples, start, driven) {
-        Outcome::Refused(why) => Outcome::Refused(why),
-        Outcome::Accepted => check_second(others, other_start, other_driven, driven),
-    }
+    check_recording(samples, start, driven)?;
+    check_second(others, other_start, other_driven, driven)
 }
 
 // Whether two recordings, read on for ever, have the same driven bits at every moment, and if not, the first moment that differs.
@@ -52,18 +50,16 @@ pub fn compare(
     others: &[u32],
     other_start: usize,
     other_driven: usize,
-) -> Comparison
+) -> Result<Option<usize>, Refusal>
     ensures { result ≡ comparing.comparison samples.now start driven others.now other_start other_driven }
 {
-    match check_both(
+    check_both(
         samples.len(),
         start,
         driven,
         others.len(),
         other_start,
         other_driven,
-    ) {
-        Outcome::Refused(why) => Comparison::Refused(why),
-        Outcome::Accepted => first_difference(samples, start, others, other_start, driven),
-    }
+    )?;
+    Ok(first_difference(samples, start, others, other_start, driven))
 }

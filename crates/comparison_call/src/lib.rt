@@ -4,30 +4,20 @@
 ghost use Rattle.agreement.specs.Comparing.{comparison};
 ghost use Rattle.agreement.specs.Replies.{ComparisonReply};
 
-use agreement::answer::Comparison;
+use refusals::Refusal;
 
 // A comparison in lent numbers.
-fn reply(c: Comparison, same: &mut bool, moment: &mut usize, place: &mut usize) -> u32
+fn reply(
+    c: Result<Option<usize>, Refusal>,
+    same: &mut bool,
+    moment: &mut usize,
+    place: &mut usize,
+) -> u32
     ensures { ComparisonReply c result same.new moment.new place.new }
 {
-    *place = 0;
-    *moment = 0;
-    *same = false;
-    match c {
-        Comparison::Same => {
-            *same = true;
-            0
-        }
-        Comparison::Differ(m) => {
-            *moment = m;
-            0
-        }
-        Comparison::Refused(why) => {
-            let report = reports::report_of(why);
-            *place = report.1;
-            report.0
-        }
-    }
+    *same = matches!(c, Ok(None));
+    *moment = c.ok().flatten().unwrap_or(0);
+    outcome_replies::reply(c.map(|_| ()), place)
 }
 
 // Whether two recordings, read on for ever, have the same driven bits at every moment, and if not, the first moment that differs.

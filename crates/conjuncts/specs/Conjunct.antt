@@ -8,7 +8,7 @@ use Rattle.drafts.specs.Drafted.{Drafted}
 use Rattle.form_places.specs.declared.Rewriting.TheVariants.{Steady, Recurring, Opening}
 use Rattle.fixpoint_kinds.specs.declared.Fixpoint.{Fixpoint}
 use Rattle.fixpoint_kinds.specs.declared.Fixpoint.TheVariants.{Least, Greatest}
-use Rattle.refusals.specs.declared.Outcome.TheVariants.{Accepted}
+use Rattle.std.specs.Prelude.{Ok}
 use Rattle.table.specs.Checks.{checked}
 use Rattle.table.specs.Node.{binary_kind}
 use Rattle.slots.specs.Slot.{pack}
@@ -58,7 +58,7 @@ pub record Conjoined (x : Fixpoint) (j : ℕ) (d : List ℕ) (next : ℕ) (e : L
 -- all words are filled, and there is room for all conjuncts after what the slot before `first` stands for
 pub record Joinable (x : Fixpoint) (t positions : List ℕ) (c : ℕ) (d : List ℕ) (first : ℕ) : Type 0 where
   pub limit : ℕ
-  pub accepted : checked true limit t ≡ Accepted
+  pub accepted : checked true limit t ≡ Ok tt
   pub kept : Kept t positions (length t)
   pub filled : Filled t c d (length t)
   pub past_words : place Opening (length t) < first

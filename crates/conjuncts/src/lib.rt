@@ -43,14 +43,10 @@ pub fn conjuncts(
     ensures { Joined fixpoint table.now choice draft.old first draft.new result }
 {
     let mut next = first;
-    let mut i = 0;
-    while i < table.len() {
-        if fixpoint_kinds::is(fixpoint, table[i]) {
-            if choice_bits::chosen(positions, choice, i + 1) {
-                next = conjoin(fixpoint, i + 1, draft, next);
-            }
+    for (i, &w) in table.iter().enumerate() {
+        if fixpoint_kinds::is(fixpoint, w) && choice_bits::chosen(positions, choice, i + 1) {
+            next = conjoin(fixpoint, i + 1, draft, next);
         }
-        i += 1;
     }
     next
 }

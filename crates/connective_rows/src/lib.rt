@@ -19,15 +19,14 @@ fn join_words(row: &mut [u64], op: Connective, a: &[u64], b: &[u64], positions: 
         → row.new ≡ rows.row positions (across (joins op) A B) }
 {
     let last = row.len() - 1;
-    let mut w = 0;
-    while w < last {
+    // By index: the words of both operands are read at once.
+    for w in 0..last {
         row[w] = join(op, a[w], b[w], 64);
-        w += 1;
     }
     row[last] = join(op, a[last], b[last], filled(positions, last));
 }
 
-// A connective at every position: which one it is is asked once a row, and not at each of its words.
+// A connective at every position. Which one it is is asked here, once a row, so that each loop is made for its own connective: asked at each word it is slower.
 pub fn write_connective(row: &mut [u64], op: Connective, a: &[u64], b: &[u64], positions: usize)
     requires row_for { RowFor positions row.old }
     requires a_len { (length a.now ≡ length row.old) × (length b.now ≡ length row.old) }

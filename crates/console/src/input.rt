@@ -11,14 +11,11 @@ fn read_again<R: Read>(reader: &mut R, buffer: &mut [u8]) -> io::Result<usize>
     ensures bound { ReadsAtMost result buffer.new }
     ensures bytes { ReadConsumes (R.remaining reader.old) (R.remaining reader.new) result buffer.new }
 {
+    // Counted and not `loop`: nothing but the reader says that it is not interrupted for ever.
     for _ in 0..u64::MAX {
         match reader.read(buffer) {
-            Ok(n) => return Ok(n),
-            Err(error) => {
-                if error.kind() != ErrorKind::Interrupted {
-                    return Err(error);
-                }
-            }
+            Err(error) if error.kind() == ErrorKind::Interrupted => {}
+            other => return other,
         }
     }
     reader.read(buffer)
@@ -32,6 +29,7 @@ pub fn fill<R: Read>(reader: &mut R, buffer: &mut [u8]) -> io::Result<usize>
     ensures end { IfOk result (λ n. n < length buffer.new → IsAtEnd (R.remaining reader.new)) }
 {
     let mut done = 0;
+    // By a count and not a slice that loses its front: how many bytes were read is the answer.
     while done < buffer.len() {
         let n = read_again(reader, &mut buffer[done..])?;
         if n == 0 {
@@ -49,6 +47,7 @@ pub fn rest<R: Read>(reader: &mut R) -> io::Result<usize>
         × (odd ≡ length bytes % 4)) }
 {
     let mut odd = 0;
+    // Counted and not `loop`: nothing but the reader says that its input ends.
     for _ in 0..u64::MAX {
         let mut buffer = [0u8; 4096];
         let n = fill(reader, &mut buffer)?;

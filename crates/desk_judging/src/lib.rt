@@ -34,10 +34,11 @@ pub fn judge<'a, 'd>(
         table.now samples.now start driven scratch.old)) }
 {
     let desks = tallies.len();
-    let mut tally = Tally { judged: 0, held: 0 };
-    if desk < desks {
-        tally = tallies[desk];
-    }
+    let tally = if desk < desks {
+        tallies[desk]
+    } else {
+        Tally::new()
+    };
     let called = judge_calls::judge(
         table, samples, start, driven, scratch, desks, desk, tally, holds, moments, failing, place,
     );

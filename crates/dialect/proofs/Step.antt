@@ -5,9 +5,8 @@ use mathlib.Core.Bool.{true}
 use mathlib.Core.List.{List}
 use lib.ListN.{length, take}
 use Rattle.refusals.specs.declared.Refusal.{Refusal}
-use Rattle.refusals.specs.declared.Outcome.TheVariants as outcome
-use Rattle.table.specs.declared.answer.Answer.{Answer}
-use Rattle.table.specs.declared.answer.Answer.TheVariants.{Refused}
+use Rattle.std.specs.Prelude.{Ok, Err}
+use Rattle.table.specs.Answers.{Answer}
 use Rattle.table.specs.Frame.{dialect_step}
 use Rattle.table.proofs.Frame.{dialect-early}
 use Rattle.table.specs.Checks.{checked}
@@ -21,15 +20,15 @@ use Rattle.headed_answers.proofs.Ends.{given_ends}
 use Rattle.heading.proofs.Order.{whole_body}
 
 -- the part of an accepted table that stands after its header
-pub words-accepted : (s : List ℕ) → headed_checked true 16383 s ≡ outcome.Accepted → checked true 16383 (take (length s - 1) (body s)) ≡ outcome.Accepted
+pub words-accepted : (s : List ℕ) → headed_checked true 16383 s ≡ Ok tt → checked true 16383 (take (length s - 1) (body s)) ≡ Ok tt
 words-accepted s ok = rw (whole_body s) (accepted-headed true 16383 s ok).words
 
 module _ (s result : List ℕ) where
-  pub refused : (r : Refusal) → headed_checked true 16383 s ≡ outcome.Refused r → Ends dialect_step s result (Refused r) result
+  pub refused : (r : Refusal) → headed_checked true 16383 s ≡ Err r → Ends dialect_step s result (Err r) result
   unfolding headed_checked
   refused r e = writing.ends-refused dialect_step s result dialect-early r e
 
-  pub made : {e : List ℕ} {r : Answer} → headed_checked true 16383 s ≡ outcome.Accepted → Given (headed (dialect_table (take (length s - 1) (body s)))) result e r
+  pub made : {e : List ℕ} {r : Answer} → headed_checked true 16383 s ≡ Ok tt → Given (headed (dialect_table (take (length s - 1) (body s)))) result e r
       → Ends dialect_step s result r e
   unfolding headed_checked
   made ok g = given_ends dialect_step s result ok (rw (whole_body s) at g)

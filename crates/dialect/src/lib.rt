@@ -5,16 +5,13 @@ ghost use Rattle.std.specs.Prelude.{◌≡◌, length};
 ghost use Rattle.table.specs.Frame.{dialect_step, answer_of, result_of};
 
 use dialect_answers::answer;
-use refusals::Outcome;
-use table::answer::Answer;
+use refusals::Refusal;
 
 // The table's length, or why there is none.
-pub fn convert(table: &[u32], res: &mut [u32]) -> Answer
+pub fn convert(table: &[u32], res: &mut [u32]) -> Result<usize, Refusal>
     ensures value { result ≡ answer_of dialect_step table.now (length res.old) }
     ensures res_after { res.new ≡ result_of dialect_step table.now res.old }
 {
-    match heading::check(table, true, 16383) {
-        Outcome::Refused(r) => Answer::Refused(r),
-        Outcome::Accepted => answer(&table[1..], res),
-    }
+    heading::check(table, true, 16383)?;
+    answer(&table[1..], res)
 }

@@ -7,7 +7,7 @@ use mathlib.Core.Bool.{true}
 use mathlib.Core.List.{List}
 use lib.ListN.{length, set, length-set, replicate, length-replicate}
 use Rattle.transforms.specs.Dialect.{dialect}
-use Rattle.refusals.specs.declared.Outcome.TheVariants.{Accepted}
+use Rattle.std.specs.Prelude.{Ok}
 use Rattle.table.specs.Table.{rule}
 use Rattle.table.specs.Checks.{checked}
 use Rattle.table.specs.Steps.{dialect_table}
@@ -38,7 +38,7 @@ word-filling {t} {d} {j} {k} {l} {r} q w = go (dec_lt k 5) (ℕ_discrete k 7) (�
     go (no h) (no b) (no c) (no e) =
         filling (kept_ready q w (record { above = omega arith; plain = plain_at q w; no_next = b; no_weak = c; no_strong = e }) refl refl)
 
-module _ (t : List ℕ) (ok : checked true 16383 t ≡ Accepted) where
+module _ (t : List ℕ) (ok : checked true 16383 t ≡ Ok tt) where
   words-filling : (d : List ℕ) → Room t d → (n : ℕ) → n ≤ length t → Filling t d n
   words-filling d q zero h = (d, refl, none_filled t d)
   words-filling d q (suc n) h =

@@ -14,8 +14,7 @@ use Rattle.transforms.specs.Dialect.{dialect, free_op, is_free}
 use Rattle.logic.proofs.Tests.{T_and}
 use Rattle.transforms.proofs.Letters.{letters-sub}
 use Rattle.transforms.proofs.Dialect as law
-use Rattle.refusals.specs.declared.Outcome.TheVariants.{Accepted}
-use Rattle.table.specs.declared.answer.Answer.TheVariants.{Made}
+use Rattle.std.specs.Prelude.{Ok}
 use Rattle.table.specs.Node.{Shape, none, constant, letter, unary, binary, kind, left, right, shape, kind_of, binary_kind, left_field, right_field}
 use Rattle.table.specs.Table.{formulas, formula_of, formula_by, rule}
 use Rattle.table.specs.Checks.{is_operand, checked}
@@ -59,7 +58,7 @@ free_by (binary o) p q n a b f g = (T_and (free_op o && is_free a) (is_free b)).
     operator strong p q = absurd (q refl)
     operator implies p q = tt
 
-module _ (t : List ℕ) (ok : checked true 16383 t ≡ Accepted) where
+module _ (t : List ℕ) (ok : checked true 16383 t ≡ Ok tt) where
   table : WellFormed true 16383 t
   table = accepted-well-formed true 16383 t ok
 
@@ -96,7 +95,7 @@ module _ (t : List ℕ) (ok : checked true 16383 t ≡ Accepted) where
 
   -- the numbers of its words fit their fields
   module _ (few : length (dialect_table t) ≤ 16383) where
-    pub dialect-accepted : checked true 16383 (dialect_table t) ≡ Accepted
+    pub dialect-accepted : checked true 16383 (dialect_table t) ≡ Ok tt
     unfolding dialect_table
     dialect-accepted = accepted-table_of true 16383 (dialect (rule t)) converted_plain few (omega arith)
 
@@ -130,8 +129,8 @@ module _ (t : List ℕ) (ok : checked true 16383 t ≡ Accepted) where
     again = ap (λ (φ : Formula). table_of (dialect φ)) dialect-rule ∙ ap table_of (law.dialect-twice (rule t))
 
 -- the table that is made of an accepted one
-module _ (s : List ℕ) (ok : headed_checked true 16383 s ≡ Accepted) where
-  given : checked true 16383 (body s) ≡ Accepted
+module _ (s : List ℕ) (ok : headed_checked true 16383 s ≡ Ok tt) where
+  given : checked true 16383 (body s) ≡ Ok tt
   given = (accepted-headed true 16383 s ok).words
 
   pub dialect_converted : length (dialect_table (body s)) ≤ 16383 → Converted s (headed (dialect_table (body s)))
@@ -147,17 +146,17 @@ module _ (s : List ℕ) (ok : headed_checked true 16383 s ≡ Accepted) where
 
   -- at most 8,190 words are always converted in a slice of two words for each of them, two more, and the header
   pub dialect-answered : (slice : List ℕ) → length (body s) ≤ 8190 → 2 * length (body s) + 3 ≤ length slice
-      → answer_of dialect_step s (length slice) ≡ Made (suc (length (dialect_table (body s))))
+      → answer_of dialect_step s (length slice) ≡ Ok (suc (length (dialect_table (body s))))
   unfolding headed_checked
   dialect-answered slice h l =
       made_answer dialect_step s slice ok (le-leb (suc (length (dialect_table (body s)))) (min (length slice) 16384) (omega (arith, dialect-short (body s) given)))
 
 -- of every answered call: the header and the words at the front of the slice
-module _ (s slice : List ℕ) (n : ℕ) (made : answer_of dialect_step s (length slice) ≡ Made n) where
+module _ (s slice : List ℕ) (n : ℕ) (made : answer_of dialect_step s (length slice) ≡ Ok n) where
   answer : Answered dialect_step s slice n
   answer = answered dialect_step s slice n made
 
-  accepted : headed_checked true 16383 s ≡ Accepted
+  accepted : headed_checked true 16383 s ≡ Ok tt
   unfolding headed_checked
   accepted = answer.accepted
 
@@ -179,13 +178,13 @@ module _ (s slice : List ℕ) (n : ℕ) (made : answer_of dialect_step s (length
     again_fits : result_fits (length (headed (dialect_table (body u)))) (length next) ≡ true
     again_fits = le-leb (length (headed (dialect_table (body u)))) (min (length next) 16384) (omega (arith, again_long, inside))
 
-    again_accepted : headed_checked true 16383 u ≡ Accepted
+    again_accepted : headed_checked true 16383 u ≡ Ok tt
     unfolding u
     again_accepted = made_converted.accepted
 
-    pub again_answer : answer_of dialect_step (take n (result_of dialect_step s slice)) (length next) ≡ Made n
+    pub again_answer : answer_of dialect_step (take n (result_of dialect_step s slice)) (length next) ≡ Ok n
     unfolding u headed_checked
-    again_answer = made_answer dialect_step u next again_accepted again_fits ∙ ap Made again_long
+    again_answer = made_answer dialect_step u next again_accepted again_fits ∙ ap Ok again_long
 
     pub again_result : result_of dialect_step (take n (result_of dialect_step s slice)) next ≡ take n (result_of dialect_step s slice) ++ drop n next
     unfolding u headed_checked

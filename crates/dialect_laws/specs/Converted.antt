@@ -4,7 +4,7 @@ use Rattle.logic.specs.Lasso.{Lasso, word}
 use Rattle.logic.specs.Semantics.{Holds}
 use Rattle.logic.specs.ClassByte.{class_byte}
 use Rattle.transforms.specs.Dialect.{dialect}
-use Rattle.refusals.specs.declared.Outcome.TheVariants.{Accepted}
+use Rattle.std.specs.Prelude.{Ok}
 use Rattle.table.specs.Node.{kind}
 use Rattle.table.specs.Table.{formulas, formula_of, rule}
 use Rattle.table.specs.Header.{headed, body, headed_checked}
@@ -26,7 +26,7 @@ pub record Counterpart (t u : List ℕ) (j : ℕ) : Type 0 where
 pub record Converted (s v : List ℕ) : Type 0 where
   -- the defined words under their header, which are an accepted plain table without W and M
   pub words : v ≡ headed (dialect_table (body s))
-  pub accepted : headed_checked true 16383 v ≡ Accepted
+  pub accepted : headed_checked true 16383 v ≡ Ok tt
   pub free : Free (body v)
   -- it holds at every position of every lasso exactly where its source does
   pub holds : (r : Lasso) (i : ℕ) → Holds (word r) (rule (body v)) i ↔ Holds (word r) (rule (body s)) i

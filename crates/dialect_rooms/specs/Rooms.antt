@@ -1,10 +1,10 @@
 -- What a conversion's table is written with.
 use Rattle.std.specs.Prelude.{ℕ, ◌+◌, ◌*◌, ◌≤◌, ◌≡◌, true, List, length}
-use Rattle.refusals.specs.declared.Outcome.TheVariants.{Accepted}
+use Rattle.std.specs.Prelude.{Ok}
 use Rattle.table.specs.Checks.{checked}
 
--- an accepted table of at most so many words, and a slice of no more words than the table's draft has slots
-pub record Asked (most : ℕ) (t out : List ℕ) : Type 0 where
-  pub accepted : checked true 16383 t ≡ Accepted
-  pub few : length t ≤ most
+-- an accepted table whose draft has at most so many slots, and a slice of no more words than that
+pub record Asked (slots : ℕ) (t out : List ℕ) : Type 0 where
+  pub accepted : checked true 16383 t ≡ Ok tt
+  pub few : 2 * length t + 2 ≤ slots
   pub lent : length out ≤ 2 * length t + 2

@@ -1,37 +1,27 @@
 // A draft of the size that the table can need, filled and numbered: short tables pay for no more.
-// A room is never inlined, so that the arrays of the larger ones stay out of the frame of a short call.
 #![tactic(auto)]
 
+ghost use Rattle.std.specs.Prelude.{◌/◌, ◌<◌, ◌≤◌};
+ghost use Rattle.table.specs.Answers.{OrNone};
+ghost use Rattle.table.specs.Numbering.{room};
 ghost use Rattle.placing.specs.Written.{Written};
 ghost use Rattle.table.specs.Steps.{dialect_table};
 ghost use Rattle.dialect_rooms.specs.Rooms.{Asked};
 
+// The table at the front of the result, and its length, if it fits: by a draft of `DRAFT` slots, numbered in a room for drafts of at most
+// `SLOTS`, whose index has more than two places for each word that a slice of as many can count for.
+// A room is never inlined, so that the arrays of the larger ones stay out of the frame of a short call.
 #[inline(never)]
-pub fn of_64(table: &[u32], res: &mut [u32]) -> usize
-    requires { Asked 64 table.now res.old }
-    ensures { Written (dialect_table table.now) res.old res.new result }
+pub fn write_in<const DRAFT: usize, const SLOTS: usize, const INDEX: usize>(
+    table: &[u32],
+    res: &mut [u32],
+) -> Option<usize>
+    requires asked { Asked DRAFT table.now res.old }
+    requires slots { DRAFT ≤ SLOTS }
+    requires index { (SLOTS ≤ 1048576) × (room SLOTS < INDEX / 2) × (INDEX ≤ 32768) }
+    ensures { OrNone (λ n. Written (dialect_table table.now) res.old res.new n) result }
 {
-    let mut draft = [0u64; 130];
+    let mut draft = [0u64; DRAFT];
     dialect_draft::fill(table, &mut draft);
-    number_rooms::of_195(&draft, 2 * table.len() + 1, res)
-}
-
-#[inline(never)]
-pub fn of_512(table: &[u32], res: &mut [u32]) -> usize
-    requires { Asked 512 table.now res.old }
-    ensures { Written (dialect_table table.now) res.old res.new result }
-{
-    let mut draft = [0u64; 1026];
-    dialect_draft::fill(table, &mut draft);
-    number_rooms::of_1539(&draft, 2 * table.len() + 1, res)
-}
-
-#[inline(never)]
-pub fn of_16383(table: &[u32], res: &mut [u32]) -> usize
-    requires { Asked 16383 table.now res.old }
-    ensures { Written (dialect_table table.now) res.old res.new result }
-{
-    let mut draft = [0u64; 32768];
-    dialect_draft::fill(table, &mut draft);
-    long_number_rooms::of_32768(&draft, 2 * table.len() + 1, res)
+    number_rooms::number::<SLOTS, INDEX>(&draft, 2 * table.len() + 1, res)
 }

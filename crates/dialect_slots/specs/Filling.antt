@@ -2,7 +2,7 @@
 use Rattle.std.specs.Prelude.{ℕ, ◌+◌, ◌*◌, ◌<◌, ◌≤◌, ◌≡◌, true, List, length}
 use Rattle.logic.specs.Formula.{Formula}
 use Rattle.transforms.specs.Dialect.{dialect}
-use Rattle.refusals.specs.declared.Outcome.TheVariants.{Accepted}
+use Rattle.std.specs.Prelude.{Ok}
 use Rattle.table.specs.Table.{formulas, formula_of}
 use Rattle.table.specs.Checks.{checked}
 use Rattle.drafts.specs.Drafted.{Drafted}
@@ -18,7 +18,7 @@ slot_of j = 2 * j + 1
 
 -- an accepted table, and a draft with slots for its words
 pub record Room (t d : List ℕ) : Type 0 where
-  pub accepted : checked true 16383 t ≡ Accepted
+  pub accepted : checked true 16383 t ≡ Ok tt
   pub slots : 2 * length t + 2 ≤ length d
   pub few : length d ≤ 1048576
 

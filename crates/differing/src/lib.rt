@@ -1,11 +1,10 @@
 // The first moment at which two recordings of one show differ.
 #![tactic(auto)]
 
-ghost use Rattle.std.specs.Prelude.{◌≡◌, ◌≤◌, ◌<◌, length};
+ghost use Rattle.std.specs.Prelude.{◌≡◌, ◌≤◌, ◌<◌, length, Ok};
 ghost use Rattle.logic.specs.Lasso.{lasso_of};
 ghost use Rattle.agreement.specs.Comparing as comparing;
 
-use agreement::answer::Comparison;
 use moments::{alike, driven_bits, following, window};
 
 // The first moment at which two recordings that drive as many letters differ.
@@ -15,23 +14,21 @@ pub fn first_difference(
     others: &[u32],
     other_start: usize,
     driven: usize,
-) -> Comparison
+) -> Option<usize>
     requires { (length samples.now ≤ 4096) × (length others.now ≤ 4096)
         × (start < length samples.now) × (other_start < length others.now) × (driven ≤ 32) }
-    ensures { result ≡ comparing.compared (lasso_of samples.now start driven) (lasso_of others.now other_start driven) }
+    ensures { Ok result ≡ comparing.compared (lasso_of samples.now start driven) (lasso_of others.now other_start driven) }
 {
     let bits = driven_bits(driven);
     let moments = window(samples.len(), start, others.len(), other_start);
-    let mut i: usize = 0;
-    let mut at: usize = 0;
-    let mut other: usize = 0;
-    while i < moments {
+    let mut at = 0;
+    let mut other = 0;
+    for i in 0..moments {
         if !alike(samples[at], others[other], bits) {
-            return Comparison::Differ(i);
+            return Some(i);
         }
         at = following(at, samples.len(), start);
         other = following(other, others.len(), other_start);
-        i += 1;
     }
-    Comparison::Same
+    None
 }

@@ -6,9 +6,6 @@ use mathlib.Core.Path.{◌≡◌}
 pub zero_of : {n : ℕ} → n ≤ 0 → n ≡ 0
 zero_of h = omega arith
 
-pub positive : {n : ℕ} → (n ≡ 0 → ⊥) → 0 < n
-positive h = omega arith
-
 pub above_one : {n : ℕ} → 0 < n → (n ≡ 1 → ⊥) → 1 < n
 above_one h g = omega arith
 

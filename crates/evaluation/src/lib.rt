@@ -2,15 +2,14 @@
 #![tactic(auto)]
 
 ghost use Rattle.std.specs.Prelude.{◌≡◌, false, ℕ, ◌≤◌};
-ghost use Rattle.refusals.specs.declared.Outcome.TheVariants.{Accepted};
+ghost use Rattle.std.specs.Prelude.{Ok};
 ghost use Rattle.table.specs.Table.{formulas, rule};
 ghost use Rattle.table_rows.specs.Rows.{Fillable, lasso_of, rows_then};
 ghost use Rattle.judging.specs.Judging.{judge_outcome, reply_by, reply, scratch_after};
 ghost use Rattle.tally.specs.Tallies.{is_full};
 
 use judge_checks::checks::check_judge;
-use judging::answer::{Judged, Judgement};
-use refusals::Outcome;
+use judging::answer::Judged;
 use row_answers::read_answer;
 use row_filling::fill_rows;
 use row_words::row_word::row_words;
@@ -26,7 +25,7 @@ fn judge_accepted(
 ) -> Judged
     requires { Fillable table.now samples.now start scratch.old }
     ensures by_index { (driven : ℕ) → driven ≤ 32 → is_full tally ≡ false
-        → result ≡ reply_by Accepted (lasso_of samples.now start driven) (rule table.now) tally }
+        → result ≡ reply_by (Ok tt) (lasso_of samples.now start driven) (rule table.now) tally }
     ensures by_index_2 { (driven : ℕ) → driven ≤ 32
         → scratch.new ≡ rows_then (lasso_of samples.now start driven) (formulas table.now) scratch.old }
 {
@@ -49,15 +48,13 @@ pub fn judge(
     ensures value { result ≡ reply table.now samples.now start driven scratch.old desk }
     ensures scratch_after { scratch.new ≡ scratch_after (judge_outcome table.now samples.now start driven scratch.old desk) table.now samples.now start driven scratch.old }
 {
+    let tally = desk.tally;
+    // By a match: the tally goes back in either case, so the answer stands in a struct.
     match check_judge(table, samples.len(), start, driven, scratch.len(), desk) {
-        Outcome::Refused(why) => {
-            let answer = Judgement::Refused(why);
-            let tally = desk.tally;
-            Judged { answer, tally }
-        }
-        Outcome::Accepted => {
-            let tally = desk.tally;
-            judge_accepted(&table[1..], samples, start, scratch, tally)
-        }
+        Err(why) => Judged {
+            answer: Err(why),
+            tally,
+        },
+        Ok(()) => judge_accepted(&table[1..], samples, start, scratch, tally),
     }
 }

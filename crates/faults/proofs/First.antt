@@ -13,8 +13,8 @@ use borrow.Author.Tests.{ne_eqb, lt-ltb, le-ltb}
 use Rattle.logic.proofs.Numbers.{lt_or_le}
 use Rattle.refusals.specs.declared.Refusal.TheVariants.{NoWord, TooManyWords, Repeated}
 use Rattle.refusals.specs.declared.Refusal.{Refusal}
-use Rattle.refusals.specs.declared.Outcome.{Outcome}
-use Rattle.refusals.specs.declared.Outcome.TheVariants.{Accepted, Refused}
+use Rattle.refusals.specs.Refusals.{Outcome}
+use Rattle.std.specs.Prelude.{Ok, Err}
 use Rattle.refusals.specs.Refusals.{◌⇒◌, first, decide_by}
 use Rattle.table.specs.Checks.{occurs, word_checks, words_checks, use_checks, table_checks, checked}
 use Rattle.field_checks.specs.Field.{and_then}
@@ -22,11 +22,11 @@ use Rattle.field_checks.proofs.First.{first_append}
 use Rattle.faults.specs.Contents.{contents}
 
 -- a refusal leaves nothing to say of what acceptance would tell
-pub refused_kept : {A : Type 0} {r : Refusal} → Refused r ≡ Accepted → A
+pub refused_kept : {A : Type 0} {r : Refusal} → ◌≡◌ {A = Outcome} (Err r) (Ok tt) → A
 refused_kept e = let z : ◌≡◌ {A = ℕ} 0 1 = cc in absurd (omega arith)
 
 -- a word's checks: those that ask nothing of the earlier words, and then the one for repeats
-pub word_then_repeated : (p : Bool) (earlier : List ℕ) (n w : ℕ) → first (word_checks p earlier n w) ≡ and_then (first (word_checks p [] n w)) (decide_by (occurs w earlier) (Repeated n) Accepted)
+pub word_then_repeated : (p : Bool) (earlier : List ℕ) (n w : ℕ) → first (word_checks p earlier n w) ≡ and_then (first (word_checks p [] n w)) (decide_by (occurs w earlier) (Repeated n) (Ok tt))
 unfolding word_checks occurs
 word_then_repeated p earlier n w = first_append (take 8 (word_checks p [] n w)) ((occurs w earlier ⇒ Repeated n) ∷ [])
 

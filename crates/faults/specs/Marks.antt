@@ -1,7 +1,7 @@
 -- The index and the marks of operands, and what reading words tells.
 use Rattle.std.specs.Prelude.{ℕ, ◌+◌, ◌≤◌, ◌<◌, ◌≡◌, Bool, List, [], length, get_or, take}
-use Rattle.refusals.specs.declared.Outcome.{Outcome}
-use Rattle.refusals.specs.declared.Outcome.TheVariants.{Accepted}
+use Rattle.refusals.specs.Refusals.{Outcome}
+use Rattle.std.specs.Prelude.{Ok}
 use Rattle.refusals.specs.Refusals.{first}
 use Rattle.table.specs.Checks.{word_checks, words_checks}
 use Rattle.lookup.specs.Index.{half_of, Indexed}
@@ -20,8 +20,8 @@ pub record Kept (t index : List ℕ) (marks : List Bool) : Type 0 where
 -- what reading the word after the first i tells, and what reading all words does
 pub record WordRead (plain_only : Bool) (t : List ℕ) (i : ℕ) (r : Outcome) (index : List ℕ) (marks : List Bool) : Type 0 where
   pub answer : r ≡ first (word_checks plain_only (take i t) (i + 1) (get_or t i 0))
-  pub kept : r ≡ Accepted → Kept (take (i + 1) t) index marks
+  pub kept : r ≡ Ok tt → Kept (take (i + 1) t) index marks
 
 pub record WordsRead (plain_only : Bool) (t : List ℕ) (r : Outcome) (marks : List Bool) : Type 0 where
   pub answer : r ≡ first (words_checks plain_only [] t)
-  pub marked : r ≡ Accepted → Marked t marks
+  pub marked : r ≡ Ok tt → Marked t marks

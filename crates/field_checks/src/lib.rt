@@ -3,52 +3,42 @@
 
 ghost use Rattle.std.specs.Prelude.{◌≡◌, true, ◌≤◌, length, set};
 ghost use Rattle.refusals.specs.Refusals.{first};
-ghost use Rattle.field_checks.specs.Field.{and_then, blank_checks, operand_checks, letter_checks, Checked};
+ghost use Rattle.field_checks.specs.Field.{blank_checks, operand_checks, letter_checks, Checked};
 
-use refusals::{Outcome, Refusal};
+use refusals::Refusal;
 
 // A field that must be 0.
-pub fn blank_fault(field: usize, n: usize) -> Outcome
+pub fn blank_fault(field: usize, n: usize) -> Result<(), Refusal>
     ensures { result ≡ first (blank_checks field n) }
 {
     if field != 0 {
-        return Outcome::Refused(Refusal::FieldNotZero(n));
+        return Err(Refusal::FieldNotZero(n));
     }
-    Outcome::Accepted
+    Ok(())
 }
 
-pub fn operand_fault(operand: usize, n: usize, marks: &mut [bool]) -> Outcome
+pub fn operand_fault(operand: usize, n: usize, marks: &mut [bool]) -> Result<(), Refusal>
     requires { n ≤ length marks.old }
     ensures { Checked (operand_checks operand n) (set marks.old operand true) result marks.new }
 {
     if operand == 0 {
-        return Outcome::Refused(Refusal::OperandZero(n));
+        return Err(Refusal::OperandZero(n));
     }
     if n <= operand {
-        return Outcome::Refused(Refusal::OperandNotEarlier(n));
+        return Err(Refusal::OperandNotEarlier(n));
     }
     marks[operand] = true;
-    Outcome::Accepted
+    Ok(())
 }
 
-pub fn letter_fault(letter: usize, n: usize) -> Outcome
+pub fn letter_fault(letter: usize, n: usize) -> Result<(), Refusal>
     ensures { result ≡ first (letter_checks letter n) }
 {
     if letter == 0 {
-        return Outcome::Refused(Refusal::LetterOutOfRange(n));
+        return Err(Refusal::LetterOutOfRange(n));
     }
     if 32 < letter {
-        return Outcome::Refused(Refusal::LetterOutOfRange(n));
+        return Err(Refusal::LetterOutOfRange(n));
     }
-    Outcome::Accepted
-}
-
-// What was checked first decides, if it refuses.
-pub fn first_of(one: Outcome, other: Outcome) -> Outcome
-    ensures { result ≡ and_then one other }
-{
-    match one {
-        Outcome::Refused(r) => Outcome::Refused(r),
-        Outcome::Accepted => other,
-    }
+    Ok(())
 }

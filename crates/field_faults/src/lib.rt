@@ -6,9 +6,9 @@ ghost use Rattle.field_checks.specs.Field.{Checked};
 ghost use Rattle.field_faults.specs.Layout.{field_checks};
 ghost use Rattle.field_faults.specs.Marks.{marked_by};
 
-use field_checks::{blank_fault, first_of, letter_fault, operand_fault};
+use field_checks::{blank_fault, letter_fault, operand_fault};
 use layouts::Layout;
-use refusals::Outcome;
+use refusals::Refusal;
 
 pub fn field_fault(
     layout: Layout,
@@ -16,7 +16,7 @@ pub fn field_fault(
     right: usize,
     n: usize,
     marks: &mut [bool],
-) -> Outcome
+) -> Result<(), Refusal>
     requires { n ≤ length marks.old }
     ensures { Checked
         (field_checks layout left right n)
@@ -25,12 +25,21 @@ pub fn field_fault(
         marks.new }
 {
     match layout {
-        Layout::Constant => first_of(blank_fault(left, n), blank_fault(right, n)),
-        Layout::Letter => first_of(blank_fault(left, n), letter_fault(right, n)),
-        Layout::Unary => first_of(blank_fault(left, n), operand_fault(right, n, marks)),
-        Layout::Binary => first_of(
-            operand_fault(left, n, marks),
-            operand_fault(right, n, marks),
-        ),
+        Layout::Constant => {
+            blank_fault(left, n)?;
+            blank_fault(right, n)
+        }
+        Layout::Letter => {
+            blank_fault(left, n)?;
+            letter_fault(right, n)
+        }
+        Layout::Unary => {
+            blank_fault(left, n)?;
+            operand_fault(right, n, marks)
+        }
+        Layout::Binary => {
+            operand_fault(left, n, marks)?;
+            operand_fault(right, n, marks)
+        }
     }
 }

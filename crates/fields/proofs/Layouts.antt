@@ -5,8 +5,8 @@ use mathlib.Core.Bool.{Bool, true, false, not, ◌&&◌, ◌||◌, or-false}
 use mathlib.Core.List.{[]}
 use lib.Dec.{leb, eqb}
 use Rattle.refusals.specs.declared.Refusal.{Refusal}
-use Rattle.refusals.specs.declared.Outcome.{Outcome}
-use Rattle.refusals.specs.declared.Outcome.TheVariants.{Accepted}
+use Rattle.refusals.specs.Refusals.{Outcome}
+use Rattle.std.specs.Prelude.{Ok}
 use Rattle.refusals.specs.declared.Refusal.TheVariants.{KindZero, NotPlain, FieldNotZero}
 use Rattle.refusals.specs.Refusals.{first, decide_by}
 use Rattle.table.specs.Node.{Shape, none, constant, letter, unary, binary, kind, left, right, shape}
@@ -26,8 +26,8 @@ pub word_by_layout : (p : Bool) (n w : ℕ)
 unfolding word_checks occurs
 word_by_layout p n w = go (shape (kind w)) refl
   where
-    two : decide_by (not (eqb (left w) 0) || not (eqb (right w) 0)) (FieldNotZero n) Accepted ≡ first (field_checks Constant (left w) (right w) n)
-    two = decide_or (not (eqb (left w) 0)) (not (eqb (right w) 0)) (FieldNotZero n) Accepted
+    two : decide_by (not (eqb (left w) 0) || not (eqb (right w) 0)) (FieldNotZero n) (Ok tt) ≡ first (field_checks Constant (left w) (right w) n)
+    two = decide_or (not (eqb (left w) 0)) (not (eqb (right w) 0)) (FieldNotZero n) (Ok tt)
 
     go : (s : Shape) → shape (kind w) ≡ s → first (word_checks p [] n w) ≡ decide_by (eqb (kind w) 0) (KindZero n) (decide_by (p && leb 12 (kind w)) (NotPlain n) (first (field_checks (layout_of (shape (kind w))) (left w) (right w) n)))
     go none e = rw e (ap (λ (o : Outcome). decide_by (eqb (kind w) 0) (KindZero n) (decide_by (p && leb 12 (kind w)) (NotPlain n) o)) two)

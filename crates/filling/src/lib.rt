@@ -19,10 +19,8 @@ pub fn fill_words(table: &[u32], draft: &mut [u64])
 {
     draft[form_places::FALSE_SLOT] = slot::pack(kinds::FALSE, 0, 0);
     draft[form_places::TRUE_SLOT] = slot::pack(kinds::TRUE, 0, 0);
-    let mut i = 0;
-    while i < table.len() {
-        word_slots::fill_word(table[i], i + 1, draft);
-        i += 1;
+    for (i, &w) in table.iter().enumerate() {
+        word_slots::fill_word(w, i + 1, draft);
     }
 }
 

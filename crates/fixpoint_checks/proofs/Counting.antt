@@ -8,7 +8,7 @@ use mathlib.Core.Bool.{Bool, true, false}
 use mathlib.Core.List.{List, [], ◌∷◌}
 use lib.ListN.{length, get_or, drop}
 use lib.Seq.{drop-cons, drop-length}
-use Rattle.refusals.specs.declared.Outcome.TheVariants.{Accepted}
+use Rattle.std.specs.Prelude.{Ok}
 use Rattle.refusals.specs.Refusals.{first}
 use Rattle.table.specs.StepChecks.{is_fixpoint_word, fixpoint_checks}
 use Rattle.fixpoint_checks.specs.Past.{Past}
@@ -68,6 +68,6 @@ counting_all {t} {limit} {found} {i} q h = record {
   many = λ z. absurd (omega arith);
 }
   where
-    go : (k : ℕ) → first (fixpoint_checks k (suc (length t)) []) ≡ Accepted
+    go : (k : ℕ) → first (fixpoint_checks k (suc (length t)) []) ≡ Ok tt
     go zero = refl
     go (suc k) = refl

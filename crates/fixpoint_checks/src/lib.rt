@@ -1,24 +1,23 @@
 // Check 11: how many until-like words a table may have.
 #![tactic(auto)]
 
+ghost use Rattle.table.specs.Answers.{OrNone};
 ghost use Rattle.fixpoint_checks.specs.Past.{Past};
 
 use fixpoints::is_fixpoint;
 
-// The place of the first until-like word past the limit, or 0 where there is none.
-pub fn past(table: &[u32], limit: usize) -> usize
-    ensures { Past table.now limit result }
+// The place of the first until-like word past the limit.
+pub fn past(table: &[u32], limit: usize) -> Option<usize>
+    ensures { OrNone (λ n. Past table.now limit n) result }
 {
     let mut found: usize = 0;
-    let mut i = 0;
-    while i < table.len() {
-        if is_fixpoint(table[i]) {
+    for (i, &w) in table.iter().enumerate() {
+        if is_fixpoint(w) {
             if found == limit {
-                return i + 1;
+                return Some(i + 1);
             }
             found += 1;
         }
-        i += 1;
     }
-    0
+    None
 }

@@ -40,8 +40,12 @@ not_greatest (binary strong) n a b f g = refl
 not_greatest (binary implies) n a b f g = refl
 
 module _ (w : ℕ) {k : ℕ} (is-kind : k ≡ kind w) where
-  pub picked : (x : Fixpoint) (o : Binary) → k ≡ binary_kind o → ((a b : Formula) → true ≡ picks x (bin o a b)) → (a b : Formula) → true ≡ picks x (word_by w a b)
+  picked : (x : Fixpoint) (o : Binary) → k ≡ binary_kind o → ((a b : Formula) → true ≡ picks x (bin o a b)) → (a b : Formula) → true ≡ picks x (word_by w a b)
   picked x o e f a b = let q : shape (kind w) ≡ binary o = ap shape (sym is-kind ∙ e) ∙ shape-binary o in rw q (f a b)
+
+  pub picked_least : (k ≡ 8) ⊎ (k ≡ 11) → (a b : Formula) → true ≡ picks Least (word_by w a b)
+  picked_least (inl e) = picked Least until e (λ a b. refl)
+  picked_least (inr e) = picked Least strong e (λ a b. refl)
 
   pub picked-greatest : 9 ≤ k → k < 11 → (a b : Formula) → true ≡ picks Greatest (word_by w a b)
   picked-greatest h l = go (two 9 k h l)
@@ -54,8 +58,8 @@ module _ (w : ℕ) {k : ℕ} (is-kind : k ≡ kind w) where
     of_kind : {n : ℕ} → (k ≡ n → ⊥) → kind_of (shape (kind w)) ≡ n → ⊥
     of_kind f e = f (is-kind ∙ sym (kind_of-shape (kind w) small) ∙ e)
 
-    pub passed_least : (k ≡ 8 → ⊥) → (k ≡ 11 → ⊥) → (a b : Formula) → false ≡ picks Least (word_by w a b)
-    passed_least f g a b = not_least (shape (kind w)) _ a b (of_kind f) (of_kind g)
+    pub passed_least : ((k ≡ 8) ⊎ (k ≡ 11) → ⊥) → (a b : Formula) → false ≡ picks Least (word_by w a b)
+    passed_least f a b = not_least (shape (kind w)) _ a b (of_kind (λ e. f (inl e))) (of_kind (λ e. f (inr e)))
 
     pub passed_greatest : (k ≡ 9 → ⊥) → (k ≡ 10 → ⊥) → (a b : Formula) → false ≡ picks Greatest (word_by w a b)
     passed_greatest f g a b = not_greatest (shape (kind w)) _ a b (of_kind f) (of_kind g)

@@ -21,15 +21,8 @@ pub fn is(fixpoint: Fixpoint, w: u32) -> bool
 {
     let kind = word::kind(w);
     match fixpoint {
-        Fixpoint::Least => match kind {
-            kinds::UNTIL => true,
-            kinds::STRONG => true,
-            _ => false,
-        },
-        Fixpoint::Greatest => match kind {
-            kinds::WEAK..=kinds::RELEASE => true,
-            _ => false,
-        },
+        Fixpoint::Least => matches!(kind, kinds::UNTIL | kinds::STRONG),
+        Fixpoint::Greatest => matches!(kind, kinds::WEAK | kinds::RELEASE),
     }
 }
 

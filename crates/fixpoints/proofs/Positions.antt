@@ -12,7 +12,7 @@ use lib.Seq.{take-length, get_or-set_same, get_or-set_other}
 use Rattle.logic.specs.Formula.{const}
 use Rattle.transforms.specs.NormalForm.{keep}
 use Rattle.refusals.specs.declared.Refusal.TheVariants.{TooManyFixpoints}
-use Rattle.refusals.specs.declared.Outcome.TheVariants.{Accepted}
+use Rattle.std.specs.Prelude.{Ok}
 use Rattle.refusals.specs.Refusals.{first, decide_by}
 use Rattle.table.specs.Steps.{fixpoints}
 use Rattle.table.specs.StepChecks.{is_fixpoint_word, fixpoint_checks}
@@ -22,25 +22,25 @@ use Rattle.fixpoints.specs.Positions.{bit_of, Kept}
 use Rattle.fixpoints.proofs.UntilLike.{bit_of_step, bit_of_rise, bits_all, bit-listed}
 
 -- no more words than the limit where no check applies
-few_words : (limit n : ℕ) (ws : List ℕ) → first (fixpoint_checks limit n ws) ≡ Accepted → length (keep is_fixpoint_word ws) ≤ limit
+few_words : (limit n : ℕ) (ws : List ℕ) → first (fixpoint_checks limit n ws) ≡ Ok tt → length (keep is_fixpoint_word ws) ≤ limit
 unfolding fixpoint_checks
 few_words limit n [] e = omega arith
 few_words zero n (w ∷ ws) e = go (is_fixpoint_word w) (few_words zero (suc n) ws) e
   where
-    go : (b : Bool) → (first (fixpoint_checks zero (suc n) ws) ≡ Accepted → length (keep is_fixpoint_word ws) ≤ zero)
-        → decide_by b (TooManyFixpoints n) (first (fixpoint_checks zero (suc n) ws)) ≡ Accepted → length (cond b (w ∷ keep is_fixpoint_word ws) (keep is_fixpoint_word ws)) ≤ zero
+    go : (b : Bool) → (first (fixpoint_checks zero (suc n) ws) ≡ Ok tt → length (keep is_fixpoint_word ws) ≤ zero)
+        → decide_by b (TooManyFixpoints n) (first (fixpoint_checks zero (suc n) ws)) ≡ Ok tt → length (cond b (w ∷ keep is_fixpoint_word ws) (keep is_fixpoint_word ws)) ≤ zero
     go true r e = let z : ◌≡◌ {A = ℕ} 0 1 = cc in absurd (omega arith)
     go false r e = r e
 few_words (suc limit) n (w ∷ ws) e = go (is_fixpoint_word w) (few_words limit (suc n) ws) (few_words (suc limit) (suc n) ws) e
   where
-    go : (b : Bool) → (first (fixpoint_checks limit (suc n) ws) ≡ Accepted → length (keep is_fixpoint_word ws) ≤ limit)
-        → (first (fixpoint_checks (suc limit) (suc n) ws) ≡ Accepted → length (keep is_fixpoint_word ws) ≤ suc limit)
-        → first (cond b (fixpoint_checks limit (suc n) ws) (fixpoint_checks (suc limit) (suc n) ws)) ≡ Accepted
+    go : (b : Bool) → (first (fixpoint_checks limit (suc n) ws) ≡ Ok tt → length (keep is_fixpoint_word ws) ≤ limit)
+        → (first (fixpoint_checks (suc limit) (suc n) ws) ≡ Ok tt → length (keep is_fixpoint_word ws) ≤ suc limit)
+        → first (cond b (fixpoint_checks limit (suc n) ws) (fixpoint_checks (suc limit) (suc n) ws)) ≡ Ok tt
         → length (cond b (w ∷ keep is_fixpoint_word ws) (keep is_fixpoint_word ws)) ≤ suc limit
     go true r s e = omega (arith, r e)
     go false r s e = s e
 
-pub fixpoints-few : {limit : ℕ} {t : List ℕ} (few : ℕ) → WellFormed true limit t → first (fixpoint_checks few 1 t) ≡ Accepted → length (fixpoints t) ≤ few
+pub fixpoints-few : {limit : ℕ} {t : List ℕ} (few : ℕ) → WellFormed true limit t → first (fixpoint_checks few 1 t) ≡ Ok tt → length (fixpoints t) ≤ few
 fixpoints-few {t = t} few f e = omega (arith, few_words few 1 t e, bits_all f, ap (λ (l : List ℕ). length (keep is_fixpoint_word l)) (take-length t))
 
 -- the positions of the first i words are kept, of which so many are until-like
@@ -51,13 +51,6 @@ pub record Keeping (t positions : List ℕ) (bits i : ℕ) : Type 0 where
 
 pub keeping_none : (t positions : List ℕ) → length t < length positions → Keeping t positions 0 0
 keeping_none t positions h = record { within = omega arith; bits_are = refl; kept = record { long = h; few = omega arith; position = λ i l. absurd (omega arith) } }
-
--- what is added for a word
-pub one_taken : {x y : Bool} {one : ℕ} → x ≡ y → x ≡ true → one ≡ 1 → one ≡ cond y 1 0
-one_taken ex dx e = e ∙ rw (sym ex ∙ dx)
-
-pub one_left : {x y : Bool} {one : ℕ} → x ≡ y → x ≡ false → one ≡ 0 → one ≡ cond y 1 0
-one_left ex dx e = e ∙ rw (sym ex ∙ dx)
 
 module _ {t positions : List ℕ} {bits i : ℕ} (q : Keeping t positions bits i) (h : i < length t) where
   pub keeping-bits : {one : ℕ} → one ≡ cond (is_fixpoint_word (get_or t i 0)) 1 0 → bits + one ≡ bit_of t (suc i)

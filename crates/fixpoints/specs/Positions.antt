@@ -1,7 +1,7 @@
 -- The bit of each until-like word in the number of a choice, and the positions that are kept of them.
 use Rattle.std.specs.Prelude.{ℕ, suc, ◌<◌, ◌≡◌, true, List, length, get_or, take}
 use Rattle.transforms.specs.NormalForm.{keep}
-use Rattle.refusals.specs.declared.Outcome.TheVariants.{Accepted}
+use Rattle.std.specs.Prelude.{Ok}
 use Rattle.table.specs.Checks.{checked}
 use Rattle.table.specs.Steps.{fixpoints}
 use Rattle.table.specs.StepChecks.{is_fixpoint_word}
@@ -14,7 +14,7 @@ bit_of t i = length (keep is_fixpoint_word (take i t))
 -- an accepted plain table, of whose choices each is a number of 32 bits, and a place for the position of each word
 pub record Keepable (t positions : List ℕ) : Type 0 where
   pub limit : ℕ
-  pub accepted : checked true limit t ≡ Accepted
+  pub accepted : checked true limit t ≡ Ok tt
   pub few : length (fixpoints t) < 32
   pub long : length t < length positions
 

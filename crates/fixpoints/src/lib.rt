@@ -11,10 +11,7 @@ use table::kinds;
 pub fn is_fixpoint(w: u32) -> bool
     ensures { result ≡ is_fixpoint_word w }
 {
-    match word::kind(w) {
-        kinds::UNTIL..=kinds::STRONG => true,
-        _ => false,
-    }
+    matches!(word::kind(w), kinds::UNTIL..=kinds::STRONG)
 }
 
 // Keeps at each word's number how many until-like words stand before it, which is the bit number of an until-like word, and hands back how
@@ -24,12 +21,9 @@ pub fn count(table: &[u32], positions: &mut [u8]) -> u32
     ensures { (result ≡ length (fixpoints table.now)) × Kept table.now positions.new (length table.now) }
 {
     let mut bits: u8 = 0;
-    let mut i = 0;
-    while i < table.len() {
+    for (i, &w) in table.iter().enumerate() {
         positions[i + 1] = bits;
-        let one = if is_fixpoint(table[i]) { 1 } else { 0 };
-        bits += one;
-        i += 1;
+        bits += u8::from(is_fixpoint(w));
     }
-    bits as u32
+    u32::from(bits)
 }

@@ -1,17 +1,14 @@
 -- The rule of a kind: that of the operator whose kind it is, and none for the kinds that are left.
 use Prim.Native.Nat.{ℕ}
-use native.Mathlib.Omega.{arith}
 use mathlib.Core.Path.{◌≡◌, refl, sym, ap, ap₂, ◌∙◌, subst}
 use mathlib.Core.Bool.{Bool, true, false}
 use Rattle.logic.specs.Formula.{Binary, next, neg, finally, globally, conj, disj, until, weak, release, strong, implies}
 use Rattle.transforms.specs.Folding as folding
-use Rattle.transforms.specs.Folding.{on_left, on_right, or_else}
+use Rattle.transforms.specs.Folding.{on_left, on_right}
 use Rattle.table.specs.Node.{Shape, none, constant, letter, unary, binary, shape, binary_kind, kind_of}
 use Rattle.table.proofs.Shapes.{shape-unary, shape-binary, kind_of-shape}
 use Rattle.table.proofs.Shapes.{Known, known-kind}
-use Rattle.fold_rules.specs.declared.Fold.{Fold}
-use Rattle.fold_rules.specs.declared.Fold.TheVariants.{Left, Right, Stands}
-use Rattle.fold_rules.specs.Rules.{left_rule, right_rule, constantly, answer}
+use Rattle.fold_rules.specs.Rules.{left_rule, right_rule, constantly}
 
 -- a kind that stands for something is that of its shape
 shape-kind : (k : ℕ) (s : Shape) → shape k ≡ s → Known s → k ≡ kind_of s
@@ -72,20 +69,3 @@ constantly_none f k p q = go (shape k) refl
     go (letter b) e = refl
     go (unary o) e = refl
     go (binary o) e = refl
-
-pub no_left : Left ≡ Stands → ⊥
-no_left e = let z : ◌≡◌ {A = ℕ} 0 1 = cc in omega arith
-
-pub no_right : Right ≡ Stands → ⊥
-no_right e = let z : ◌≡◌ {A = ℕ} 0 1 = cc in omega arith
-
--- the left operand tells, unless it leaves the word standing
-pub left_tells : (f g : folding.Fold) {r : Fold} → r ≡ answer f → (r ≡ Stands → ⊥) → r ≡ answer (or_else f g)
-left_tells folding.left g e h = e
-left_tells folding.right g e h = e
-left_tells folding.stands g e h = absurd (h e)
-
-pub right_tells : (f g : folding.Fold) → Stands ≡ answer f → answer g ≡ answer (or_else f g)
-right_tells folding.left g e = absurd (no_left (sym e))
-right_tells folding.right g e = absurd (no_right (sym e))
-right_tells folding.stands g e = refl

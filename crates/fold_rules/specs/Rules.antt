@@ -1,10 +1,10 @@
 -- The rules of folding by the shapes of a word and of its operands.
-use Rattle.std.specs.Prelude.{Bool}
+use Rattle.std.specs.Prelude.{Bool, Option, Some, None}
 use Rattle.transforms.specs.Folding as folding
 use Rattle.transforms.specs.Folding.{on_left, on_right, on_operand, or_else}
 use Rattle.table.specs.Node.{Shape, none, constant, letter, unary, binary}
-use Rattle.fold_rules.specs.declared.Fold.{Fold}
-use Rattle.fold_rules.specs.declared.Fold.TheVariants.{Left, Right, Stands}
+use Rattle.fold_rules.specs.declared.Side.{Side}
+use Rattle.fold_rules.specs.declared.Side.TheVariants.{Left, Right}
 
 -- a constant on the left, and on the right, where a word with one operand has it
 abbrev pub left_rule : Shape → Bool → folding.Fold
@@ -33,7 +33,7 @@ constantly f (binary o) = folding.stands
 abbrev pub rule_of : Shape → Shape → Shape → folding.Fold
 rule_of s a b = or_else (constantly (left_rule s) a) (constantly (right_rule s) b)
 
-abbrev pub answer : folding.Fold → Fold
-answer folding.left = Left
-answer folding.right = Right
-answer folding.stands = Stands
+abbrev pub answer : folding.Fold → Option Side
+answer folding.left = Some Left
+answer folding.right = Some Right
+answer folding.stands = None

@@ -4,14 +4,14 @@
 ghost use Rattle.std.specs.Prelude.{◌≡◌, get_or};
 ghost use Rattle.folding.specs.Folded.{folded_slot, Foldable, Folded};
 
-use fold_rules::Fold;
+use fold_rules::Side;
 use slots::slot;
 
 // Slot i, or 0 where there is none: a slot that nothing leads to may hold anything.
 pub fn slot_at(folded: &[u64], i: usize) -> u64
     ensures { result ≡ get_or folded.now i 0 }
 {
-    if i < folded.len() { folded[i] } else { 0 }
+    folded.get(i).copied().unwrap_or(0)
 }
 
 // The slot of a word over operands that are folded: that of the operand which the word is, or its own.
@@ -21,9 +21,9 @@ pub fn of(s: u64, folded: &[u64]) -> u64
     let a = slot_at(folded, slot::left(s));
     let b = slot_at(folded, slot::right(s));
     match fold_rules::of(slot::kind(s), slot::kind(a), slot::kind(b)) {
-        Fold::Left => a,
-        Fold::Right => b,
-        Fold::Stands => s,
+        Some(Side::Left) => a,
+        Some(Side::Right) => b,
+        None => s,
     }
 }
 
@@ -32,10 +32,7 @@ pub fn fold(draft: &[u64], count: usize, folded: &mut [u64])
     requires { Foldable draft.now count folded.old }
     ensures { Folded draft.now folded.new count }
 {
-    let mut i = 0;
-    while i < count {
-        let s = of(draft[i], folded);
-        folded[i] = s;
-        i += 1;
+    for i in 0..count {
+        folded[i] = of(draft[i], folded);
     }
 }

@@ -11,5 +11,5 @@ pub fn words(n: usize, bits: u32, room: usize) -> usize
 {
     let k = bits as usize;
     let most = (1 << k) * (5 * n + 3 * k + 1) + 2;
-    if most < room { most } else { room }
+    most.min(room)
 }

@@ -5,9 +5,11 @@ use mathlib.Core.Path.{refl}
 use mathlib.Core.Bool.{true}
 use mathlib.Core.List.{List}
 use lib.ListN.{replicate, length-replicate}
+use Rattle.std.specs.Prelude.{Option, Some, None}
 use Rattle.logic.proofs.Numbers.{get_or-zeros}
 use Rattle.transforms.specs.NormalForm.{normal_form}
 use Rattle.transforms.specs.Folding.{fold}
+use Rattle.table.specs.Answers.{OrNone}
 use Rattle.table.specs.Table.{rule}
 use Rattle.table.specs.Numbering.{build}
 use Rattle.table.specs.Steps.{fixpoints, normal_table}
@@ -40,8 +42,14 @@ formable {out = out} slots m words q s h l = record {
 }
 
 -- the form was placed after no words
-pub formed : {t out : List ℕ} → Accepted t → (m : ℕ) {e : State} {r : ℕ}
+formed : {t out : List ℕ} → Accepted t → (m : ℕ) {e : State} {r : ℕ}
     → Placing (state out (replicate m 0)) e (build (written (state out (replicate m 0))) (fold (normal_form (fixpoints t) (rule t)))) r → Written (normal_table t) out e.out r
 unfolding normal_table
 formed {t} q m p =
     written_all (fold (normal_form (fixpoints t) (rule t))) (folded_letters q.limit t q.accepted (omega (arith, q.short)) (λ p. p < 16384) (rule_small true q.limit t q.accepted)) p (get_or-zeros m 0)
+
+pub formed_all : {t : List ℕ} → Accepted t → (m : ℕ) (e : State) (out : List ℕ) (r : Option ℕ)
+    → OrNone (λ n. Placing (state out (replicate m 0)) e (build (written (state out (replicate m 0))) (fold (normal_form (fixpoints t) (rule t)))) n) r
+    → OrNone (λ n. Written (normal_table t) out e.out n) r
+formed_all q m e out None p = formed q m p
+formed_all q m e out (Some n) p = (p.0, formed q m p.1)

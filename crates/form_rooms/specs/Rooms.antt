@@ -1,6 +1,6 @@
 -- What a form is asked with, in rooms of a size.
 use Rattle.std.specs.Prelude.{ℕ, ◌+◌, ◌≤◌, ◌<◌, ◌≡◌, true, List, length}
-use Rattle.refusals.specs.declared.Outcome.TheVariants as outcome
+use Rattle.std.specs.Prelude.{Ok, Err}
 use Rattle.table.specs.Limits.{most, plain_limit}
 use Rattle.table.specs.Checks.{checked}
 use Rattle.table.specs.Numbering.{room}
@@ -24,7 +24,7 @@ most_slots = slots_for (plain_limit most) most.fixpoints
 -- an accepted plain table whose form can be made
 pub record Accepted (t : List ℕ) : Type 0 where
   pub limit : ℕ
-  pub accepted : checked true limit t ≡ outcome.Accepted
+  pub accepted : checked true limit t ≡ Ok tt
   pub short : limit < positions_length
   pub few : length (fixpoints t) < 32
   pub drafted : draft_size t ≤ most_slots

@@ -19,8 +19,8 @@ use Rattle.placing.specs.State.{State, written, Numbered, Placing, Putting}
 use Rattle.choosing.specs.Filled.{Laid}
 use Rattle.parts.specs.Parts.{folded_part, Ready}
 use Rattle.true_parts.proofs.Looks.{ready_again}
-use Rattle.sums.specs.declared.Sum.{Sum}
-use Rattle.sums.specs.declared.Sum.TheVariants.{Nothing, Full, At}
+use Rattle.std.specs.Prelude.{Option, Some, None}
+use Rattle.table.specs.Answers.{OrNone}
 use Rattle.sums.specs.Summed.{Summed}
 use Rattle.part_sums.specs.Joining.{joined, Joinable}
 use Rattle.form_table.specs.Formable.{Formable}
@@ -70,17 +70,22 @@ module _ (t : List ℕ) where
   pub form-true : {k : ℕ} → k ≡ length (fixpoints t) → (c : ℕ) × (c < 2 ^ k) × (folded_part t c ≡ const true) → fold form ≡ const true
   form-true {k} e w = sym (fold-form e) ∙ joined-true w.0 w.2 (choices k) (const false) (mem_choices k w.0 w.1)
 
-  pub placed-true : fold form ≡ const true → {s e : State} {w r : ℕ} → w ≡ constant_word true → Putting s e (put (written s) w) r → Placing s e (build (written s) (fold form)) r
-  placed-true e {s} z p = rw (e, build-const (written s) true) (rw z at p.placed)
+  placed_word : fold form ≡ const true → {s e : State} {w r : ℕ} → w ≡ constant_word true → Putting s e (put (written s) w) r → Placing s e (build (written s) (fold form)) r
+  placed_word e {s} z p = rw (e, build-const (written s) true) (rw z at p.placed)
 
-  pub placed_sum : {k : ℕ} → k ≡ length (fixpoints t) → {s e : State} {r : ℕ} → Placing s e (build (written s) (joined t (choices k) (const false))) r → Placing s e (build (written s) (fold form)) r
-  placed_sum q {s} {e} {r} p = subst (λ (φ : Formula). Placing s e (build (written s) φ) r) (fold-form q) p
+  pub placed-true : fold form ≡ const true → (s e : State) (w : ℕ) → w ≡ constant_word true → (r : Option ℕ)
+      → OrNone (λ n. Putting s e (put (written s) w) n) r → OrNone (λ n. Placing s e (build (written s) (fold form)) n) r
+  placed-true e s m w z None p = placed_word e z p
+  placed-true e s m w z (Some n) p = (p.0, placed_word e z p.1)
+
+  pub placed_sum : {k : ℕ} → k ≡ length (fixpoints t) → (s e : State) (r : Option ℕ)
+      → OrNone (λ n. Placing s e (build (written s) (joined t (choices k) (const false))) n) r → OrNone (λ n. Placing s e (build (written s) (fold form)) n) r
+  placed_sum q s e r p = subst (λ (φ : Formula). OrNone (λ n. Placing s e (build (written s) φ) n) r) (fold-form q) p
 
 -- a sum leaves a table whose words are numbered
-pub summed-numbered : (s e : State) (χ : Formula) (r : Sum) → Numbered s → Summed s e χ r → Numbered e
-summed-numbered s e χ Nothing h p = subst Numbered (sym p.1) h
-summed-numbered s e χ Full h p = p.1.numbered
-summed-numbered s e χ (At n) h p = p.2.numbered
+pub summed-numbered : (s e : State) (χ : Formula) (r : Option ℕ) → Numbered s → Summed s e χ r → Numbered e
+summed-numbered s e χ None h p = subst Numbered (sym p.1) h
+summed-numbered s e χ (Some n) h p = p.2.numbered
 
 -- what the look and the sum are asked with
 module _ {t positions : List ℕ} {bits : ℕ} {d folded numbers stack : List ℕ} {s : State} (q : Formable t positions bits d folded numbers stack s) where

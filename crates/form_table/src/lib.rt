@@ -3,6 +3,7 @@
 
 ghost use Rattle.transforms.specs.NormalForm.{normal_form};
 ghost use Rattle.transforms.specs.Folding.{fold};
+ghost use Rattle.table.specs.Answers.{OrNone};
 ghost use Rattle.table.specs.Numbering.{build};
 ghost use Rattle.table.specs.Table.{rule};
 ghost use Rattle.table.specs.Steps as steps;
@@ -12,7 +13,8 @@ ghost use Rattle.form_table.specs.Formable.{Formable};
 use placing::put;
 use table::kinds;
 
-// All choices among the until-like words, of which there are as many as bits.
+// All choices among the until-like words, of which there are as many as bits. The answer is how many words the form has, none where there is
+// no room for it.
 pub fn form(
     table: &[u32],
     positions: &[u8],
@@ -23,14 +25,16 @@ pub fn form(
     stack: &mut [u32],
     out: &mut [u32],
     index: &mut [u16],
-) -> usize
+) -> Option<usize>
     requires { Formable table.now positions.now bits draft.old folded.old numbers.old stack.old (state out.old index.old) }
-    ensures { Placing
+    ensures { OrNone
+        (λ n. Placing
         (state out.old index.old)
         (state out.new index.new)
         (build
         (written (state out.old index.old))
         (fold (normal_form (steps.fixpoints table.now) (rule table.now))))
+        n)
         result }
 {
     filling::fill_words(table, draft);
@@ -39,6 +43,6 @@ pub fn form(
     }
     let sum = choices::all(
         table, positions, bits, draft, folded, numbers, stack, out, index,
-    );
+    )?;
     closed_sums::close(sum, out, index)
 }

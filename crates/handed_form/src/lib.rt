@@ -24,18 +24,18 @@ pub fn normalise<'a>(
     ensures place_after { place.new ≡ (form_report (form_of limits source.old (length res.old))).1 }
 {
     match form(limits, source, res) {
-        Form::Refused(why) => {
+        Err(why) => {
             let report = reports::report_of(why);
             *number = report.0;
             *place = report.1;
             &mut res[0..0]
         }
-        Form::Source(n) => {
+        Ok(Form::Source(n)) => {
             *number = 0;
             *place = 0;
             &mut source[0..n]
         }
-        Form::Made(n) => {
+        Ok(Form::Made(n)) => {
             *number = 0;
             *place = 0;
             &mut res[0..n]

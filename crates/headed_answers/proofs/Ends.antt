@@ -8,9 +8,8 @@ use lib.ListN.{length, take, drop, replicate}
 use lib.Seq.{take-append_seam}
 use borrow.Author.Tests.{le-leb, lt-leb}
 use Rattle.refusals.specs.declared.Refusal.TheVariants.{ResultTooShort}
-use Rattle.refusals.specs.declared.Outcome.TheVariants as outcome
-use Rattle.table.specs.declared.answer.Answer.{Answer}
-use Rattle.table.specs.declared.answer.Answer.TheVariants.{Made, Refused}
+use Rattle.std.specs.Prelude.{Ok, Err}
+use Rattle.table.specs.Answers.{Answer}
 use Rattle.refusals.specs.Refusals.{first}
 use Rattle.table.specs.Header.{headed, body}
 use Rattle.table.specs.StepChecks.{result_fits}
@@ -22,7 +21,7 @@ use Rattle.header_classes.specs.Headable.{Headable}
 use Rattle.headed_answers.specs.Finished.{Finishable, Finished, Given}
 
 -- of a step whose checks pass, what was given is how it ends
-pub given_ends : (s : Step) (t result : List ℕ) {e : List ℕ} {r : Answer} → first (s.checks t) ≡ outcome.Accepted → Given (s.makes t) result e r → Ends s t result r e
+pub given_ends : (s : Step) (t result : List ℕ) {e : List ℕ} {r : Answer} → first (s.checks t) ≡ Ok tt → Given (s.makes t) result e r → Ends s t result r e
 given_ends s t result {e} {r} ok g = by_fit (result_fits (length (s.makes t)) (length result)) refl
   where
     by_fit : (b : Bool) → result_fits (length (s.makes t)) (length result) ≡ b → Ends s t result r e
@@ -30,7 +29,7 @@ given_ends s t result {e} {r} ok g = by_fit (result_fits (length (s.makes t)) (l
     by_fit false f = let h = g.unfit f in record { reply = h.0 ∙ sym (too_long-answer s t result ok f); slice = h.1 ∙ sym (too_long-result s t result ok f) }
 
 module _ (u : List ℕ) where
-  unfit_is : (result : List ℕ) {e : List ℕ} {r : Answer} → min (length result) 16384 ≤ length u → (r ≡ Refused ResultTooShort) × (e ≡ replicate (length result) 0) → Given (headed u) result e r
+  unfit_is : (result : List ℕ) {e : List ℕ} {r : Answer} → min (length result) 16384 ≤ length u → (r ≡ Err ResultTooShort) × (e ≡ replicate (length result) 0) → Given (headed u) result e r
   unfit_is result h p = record {
     fit = λ f. absurd (true≢false (sym f ∙ lt-leb (suc (length u)) (min (length result) 16384) (omega arith)));
     unfit = λ f. p;
@@ -70,6 +69,6 @@ module _ (u : List ℕ) where
       let fit = q.fit (λ z. omega arith) in
       let p = f.some (λ z. omega arith) in
       record {
-        fit = λ g. (p.0 ∙ ap (λ (k : ℕ). Made (suc k)) fit.long, p.1 ∙ rw (front (y ∷ rest) m l same q (λ z. omega arith), fit.words));
+        fit = λ g. (p.0 ∙ ap (λ (k : ℕ). Ok (suc k)) fit.long, p.1 ∙ rw (front (y ∷ rest) m l same q (λ z. omega arith), fit.words));
         unfit = λ g. absurd (true≢false (sym (le-leb (suc (length u)) (min (length (y ∷ rest)) 16384) (omega (arith, true-fits (length u) (length rest) fit.fitting))) ∙ g));
       }

@@ -6,8 +6,8 @@ use mathlib.Core.List.{List, [], ◌∷◌, ◌++◌}
 use native.Mathlib.Omega.{arith}
 use lib.ListN.{length, take, drop, length-drop}
 use borrow.Rule.Slice.PartMut.{put_mid, same_len_mid}
-use Rattle.refusals.specs.declared.Outcome.TheVariants as outcome
-use Rattle.table.specs.declared.answer.Answer.{Answer}
+use Rattle.std.specs.Prelude.{Ok}
+use Rattle.table.specs.Answers.{Answer}
 use Rattle.table.specs.Checks.{checked}
 use Rattle.table.specs.Header.{headed, body}
 use Rattle.placing.specs.Written.{Written}
@@ -38,7 +38,7 @@ module _ (u result : List ℕ) {part : List ℕ} {k n : ℕ} (some : 0 < length 
   lent_given f = given_finished u result (put_mid 1 k result part) some long whole f
 
 -- a table written to all that is left of a slice after the place of its header
-module _ (u result : List ℕ) {part : List ℕ} {n : ℕ} (accepts : length u ≤ 16383 → checked true 16383 u ≡ outcome.Accepted) (some : length result ≡ 0 → ⊥)
+module _ (u result : List ℕ) {part : List ℕ} {n : ℕ} (accepts : length u ≤ 16383 → checked true 16383 u ≡ Ok tt) (some : length result ≡ 0 → ⊥)
     (same : length part ≡ length (take (length result - 1) (body result))) (q : Written u (take (length result - 1) (body result)) part n) where
   left : length result - 1 ≡ min (length (body result)) (length u + length (body result))
   left = omega (arith, length-drop 1 result)

@@ -1,8 +1,8 @@
 -- The end of a step that made words after the place of their header.
 use Rattle.std.specs.Prelude.{ℕ, suc, ◌<◌, ◌≡◌, true, false, List, ◌∷◌, ◌++◌, length, take, drop, replicate}
 use Rattle.refusals.specs.declared.Refusal.TheVariants.{ResultTooShort}
-use Rattle.table.specs.declared.answer.Answer.{Answer}
-use Rattle.table.specs.declared.answer.Answer.TheVariants.{Made, Refused}
+use Rattle.table.specs.Answers.{Answer}
+use Rattle.std.specs.Prelude.{Ok, Err}
 use Rattle.table.specs.Header.{header_of, body}
 use Rattle.table.specs.StepChecks.{result_fits}
 use Rattle.header_classes.specs.Headable.{Headable}
@@ -14,10 +14,10 @@ pub record Finishable (s : List ℕ) (n : ℕ) : Type 0 where
 
 -- s becomes e, and r answers
 pub record Finished (s : List ℕ) (n : ℕ) (e : List ℕ) (r : Answer) : Type 0 where
-  pub none : n ≡ 0 → (r ≡ Refused ResultTooShort) × (e ≡ replicate (length s) 0)
-  pub some : (n ≡ 0 → ⊥) → (r ≡ Made (suc n)) × (e ≡ header_of (take n (body s)) ∷ body s)
+  pub none : n ≡ 0 → (r ≡ Err ResultTooShort) × (e ≡ replicate (length s) 0)
+  pub some : (n ≡ 0 → ⊥) → (r ≡ Ok (suc n)) × (e ≡ header_of (take n (body s)) ∷ body s)
 
 -- a table v, with its header, was to be written to the slice out, which becomes e: it fits and stands at the front, or every word is 0
 pub record Given (v out e : List ℕ) (r : Answer) : Type 0 where
-  pub fit : result_fits (length v) (length out) ≡ true → (r ≡ Made (length v)) × (e ≡ v ++ drop (length v) out)
-  pub unfit : result_fits (length v) (length out) ≡ false → (r ≡ Refused ResultTooShort) × (e ≡ replicate (length out) 0)
+  pub fit : result_fits (length v) (length out) ≡ true → (r ≡ Ok (length v)) × (e ≡ v ++ drop (length v) out)
+  pub unfit : result_fits (length v) (length out) ≡ false → (r ≡ Err ResultTooShort) × (e ≡ replicate (length out) 0)

@@ -1,12 +1,12 @@
 -- Words copied after the place of their header, and what is then answered.
-use Prim.Native.Nat.{ℕ, ◌+◌, ◌-◌, ◌<◌, min}
+use Prim.Native.Nat.{ℕ, ◌≤◌, ◌<◌, min}
 use native.Mathlib.Omega.{arith}
-use mathlib.Core.Path.{◌≡◌, refl, ap, ◌∙◌}
-use mathlib.Core.List.{List, ◌++◌}
+use mathlib.Core.Path.{◌≡◌, refl, sym, ap, ◌∙◌}
+use mathlib.Core.List.{List, [], append-nil}
 use lib.ListN.{length, take, drop, length-drop}
-use lib.Seq.{take_all, length-take-le}
+use lib.Seq.{drop-length, length-take-le}
 use borrow.Rule.Slice.PartMut.{put_mid}
-use Rattle.table.specs.declared.answer.Answer.{Answer}
+use Rattle.table.specs.Answers.{Answer}
 use Rattle.table.specs.Header.{headed, body}
 use Rattle.placing.specs.Written.{Written}
 use Rattle.placing.proofs.Putting.{fits-true}
@@ -15,24 +15,35 @@ use Rattle.header_classes.proofs.Headable.{some, few}
 use Rattle.headed_answers.specs.Finished.{Finishable, Finished, Given}
 use Rattle.headed_answers.proofs.Lent.{lent-finishable, lent_given}
 
-module _ {words : List ℕ} (q : Headable words) (result : List ℕ) {part : List ℕ} (long : length words < length result)
-    (same : length part ≡ length (take (length result - 1) (body result)))
-    (e : part ≡ take (length words) words ++ drop (length words) (take (length result - 1) (body result))) where
-  written : Written words (take (length result - 1) (body result)) part (length words)
+module _ {words : List ℕ} (q : Headable words) (result : List ℕ) {part : List ℕ} {k : ℕ} (long : length words < length result) (here : k ≡ length words)
+    (e : part ≡ words) where
+  inside : k ≤ length (body result)
+  inside = omega (arith, length-drop 1 result)
+
+  front : length (take k (body result)) ≡ length words
+  front = length-take-le k (body result) inside ∙ here
+
+  nothing : drop (length words) (take k (body result)) ≡ []
+  nothing = ap (λ (n : ℕ). drop n (take k (body result))) (sym front) ∙ drop-length (take k (body result))
+
+  written : Written words (take k (body result)) part (length words)
   written = record {
     unfit = λ z. absurd (omega (arith, some q));
     fit = λ z. record {
-      fitting = fits-true (length words) _ (omega (arith, few q, length-drop 1 result, length-take-le (length result - 1) (body result) (omega (arith, length-drop 1 result))));
+      fitting = fits-true (length words) _ (omega (arith, few q, front));
       long = refl;
-      words = e ∙ ap (λ (l : List ℕ). l ++ drop (length words) (take (length result - 1) (body result))) (take_all (length words) words (omega arith));
+      words = e ∙ rw (nothing, append-nil);
     };
   }
 
-  lent : length result - 1 ≡ min (length (body result)) (length words + length (body result))
-  lent = omega (arith, length-drop 1 result)
+  lent : k ≡ min (length (body result)) (length words)
+  lent = omega (arith, inside)
 
-  pub copied-finishable : Finishable (put_mid 1 (length result - 1) result part) (length words)
-  copied-finishable = lent-finishable words result (omega arith) (length words + length (body result)) (omega arith) lent same written (λ z. q)
+  same : length part ≡ length (take k (body result))
+  same = ap length e ∙ sym front
 
-  pub copied_given : {m : List ℕ} {r : Answer} → Finished (put_mid 1 (length result - 1) result part) (length words) m r → Given (headed words) result m r
-  copied_given = lent_given words result (omega arith) (length words + length (body result)) (omega arith) lent same written
+  pub copied-finishable : (0 < length words) × Finishable (put_mid 1 k result part) (length words)
+  copied-finishable = (some q, lent-finishable words result (omega arith) (length words) (omega arith) lent same written (λ z. q))
+
+  pub copied_given : {m : List ℕ} {r : Answer} → Finished (put_mid 1 k result part) (length words) m r → Given (headed words) result m r
+  copied_given = lent_given words result (omega arith) (length words) (omega arith) lent same written

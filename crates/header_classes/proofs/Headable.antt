@@ -19,15 +19,6 @@ use Rattle.class_bytes.specs.Words.{PlainWords}
 use Rattle.class_bytes.proofs.Words.{length-class_bytes, class_bytes_at}
 use Rattle.header_classes.specs.Headable.{Headable}
 
--- one word, and then those after it
-pub written_step : (t : List ℕ) (i : ℕ) → i < length t → is_written (drop i t) ≡ (leb 12 (kind (get_or t i 0)) || is_written (drop (i + 1) t))
-unfolding is_written
-written_step t i h = rw (add-one, drop-cons t i 0 h)
-
-pub written_none : (t : List ℕ) (i : ℕ) → length t ≤ i → is_written (drop i t) ≡ false
-unfolding is_written
-written_none t i h = rw (drop_of_length-le t h)
-
 or-false : (a b : Bool) → (a || b) ≡ false → (a ≡ false) × (b ≡ false)
 or-false true b h = (h, cc)
 or-false false b h = (refl, h)

@@ -11,14 +11,7 @@ use class_bytes::fill;
 fn is_written(words: &[u32]) -> bool
     ensures { result ≡ is_written words.now }
 {
-    let mut i = 0;
-    while i < words.len() {
-        if 12 <= word::kind(words[i]) {
-            return true;
-        }
-        i += 1;
-    }
-    false
+    words.iter().any(|&w| 12 <= word::kind(w))
 }
 
 // The class of the last word, with a byte for each.
@@ -33,27 +26,11 @@ fn class_in(words: &[u32], bytes: &mut [u8]) -> u8
     bytes[words.len() - 1]
 }
 
-fn of_64(words: &[u32]) -> u8
-    requires { Headable words.now × (length words.now ≤ 64) }
+fn class_with<const WORDS: usize>(words: &[u32]) -> u8
+    requires { Headable words.now × (length words.now ≤ WORDS) × (WORDS ≤ 16383) }
     ensures { result ≡ class_of words.now }
 {
-    let mut bytes = [0u8; 64];
-    class_in(words, &mut bytes)
-}
-
-fn of_512(words: &[u32]) -> u8
-    requires { Headable words.now × (length words.now ≤ 512) }
-    ensures { result ≡ class_of words.now }
-{
-    let mut bytes = [0u8; 512];
-    class_in(words, &mut bytes)
-}
-
-fn of_16383(words: &[u32]) -> u8
-    requires { Headable words.now }
-    ensures { result ≡ class_of words.now }
-{
-    let mut bytes = [0u8; 16383];
+    let mut bytes = [0u8; WORDS];
     class_in(words, &mut bytes)
 }
 
@@ -67,10 +44,10 @@ pub fn class_of(words: &[u32], most: usize) -> u8
         return class_of(words, words.len());
     }
     if words.len() <= 64 {
-        return of_64(words);
+        return class_with::<64>(words);
     }
     if words.len() <= 512 {
-        return of_512(words);
+        return class_with::<512>(words);
     }
-    of_16383(words)
+    class_with::<16383>(words)
 }

@@ -10,8 +10,8 @@ use lib.Dec.{ltb, eqb}
 use borrow.Author.Tests.{eq-eqb, ne_eqb, lt-ltb, le-ltb}
 use Rattle.refusals.specs.declared.Refusal.{Refusal}
 use Rattle.refusals.specs.declared.Refusal.TheVariants.{NoWord, TooManyWords, CountDiffers, HeaderWrong}
-use Rattle.refusals.specs.declared.Outcome.{Outcome}
-use Rattle.refusals.specs.declared.Outcome.TheVariants.{Accepted, Refused}
+use Rattle.refusals.specs.Refusals.{Outcome}
+use Rattle.std.specs.Prelude.{Ok, Err}
 use Rattle.refusals.specs.Refusals.{◌⇒◌, decide_by}
 use Rattle.table.specs.Node.{right}
 use Rattle.table.specs.Checks.{content_checks, words_checks, use_checks, checked}
@@ -24,7 +24,7 @@ use Rattle.faults.specs.Contents.{contents}
 use Rattle.faults.proofs.First.{contents-asked}
 
 last : Bool → List ℕ → Outcome
-last p s = and_then (contents p (body s)) (decide_by (is_misheaded s) HeaderWrong Accepted)
+last p s = and_then (contents p (body s)) (decide_by (is_misheaded s) HeaderWrong (Ok tt))
 
 in_order : (p : Bool) (limit : ℕ) (s : List ℕ)
     → headed_checked p limit s
@@ -33,7 +33,7 @@ unfolding headed_checked headed_checks last
 in_order p limit s =
     ap (λ (o : Outcome). decide_by (eqb (count s) 0) NoWord (decide_by (ltb limit (count s)) TooManyWords (decide_by (not (eqb (count s) (length (body s)))) CountDiffers o)))
     (first_append (content_checks p (body s)) ((is_misheaded s ⇒ HeaderWrong) ∷ [])
-    ∙ ap (λ (o : Outcome). and_then o (decide_by (is_misheaded s) HeaderWrong Accepted)) (first_append (words_checks p [] (body s)) (use_checks (body s) 1 (length (body s) - 1))))
+    ∙ ap (λ (o : Outcome). and_then o (decide_by (is_misheaded s) HeaderWrong (Ok tt))) (first_append (words_checks p [] (body s)) (use_checks (body s) 1 (length (body s) - 1))))
 
 -- all that stands after the header
 pub whole_body : (s : List ℕ) → take (length s - 1) (body s) ≡ body s
@@ -44,7 +44,7 @@ pub words-read : (p : Bool) (limit : ℕ) (s : List ℕ) {o : Outcome} → o ≡
 words-read p limit s e = ap (checked p (min limit 16383)) (sym (whole_body s)) ∙ sym e
 
 -- what is accepted has a header
-pub some_word : (p : Bool) (limit : ℕ) (s : List ℕ) → headed_checked p limit s ≡ Accepted → 1 ≤ length s
+pub some_word : (p : Bool) (limit : ℕ) (s : List ℕ) → headed_checked p limit s ≡ Ok tt → 1 ≤ length s
 some_word p limit s e = omega (arith, ap length (accepted-headed p limit s e).whole)
 
 -- a slice without a word has no header, and so no count
@@ -54,14 +54,14 @@ nothing-counted [] e = refl
 nothing-counted (w ∷ t) e = absurd (omega arith)
 
 module _ (p : Bool) (limit : ℕ) (s : List ℕ) where
-  pub no_word : count s ≡ 0 → headed_checked p limit s ≡ Refused NoWord
+  pub no_word : count s ≡ 0 → headed_checked p limit s ≡ Err NoWord
   no_word e = in_order p limit s ∙ rw (eq-eqb (count s) 0 e)
 
-  pub too_many : (count s ≡ 0 → ⊥) → limit < count s → headed_checked p limit s ≡ Refused TooManyWords
+  pub too_many : (count s ≡ 0 → ⊥) → limit < count s → headed_checked p limit s ≡ Err TooManyWords
   too_many z h = in_order p limit s ∙ rw (ne_eqb (count s) 0 z, lt-ltb limit (count s) h)
 
   module _ (z : count s ≡ 0 → ⊥) (h : count s ≤ limit) where
-    pub differing : (count s ≡ length (body s) → ⊥) → headed_checked p limit s ≡ Refused CountDiffers
+    pub differing : (count s ≡ length (body s) → ⊥) → headed_checked p limit s ≡ Err CountDiffers
     differing n = in_order p limit s ∙ rw (ne_eqb (count s) 0 z, le-ltb limit (count s) h, ne_eqb (count s) (length (body s)) n)
 
     module _ (n : count s ≡ length (body s)) where
@@ -74,19 +74,19 @@ module _ (p : Bool) (limit : ℕ) (s : List ℕ) where
       words : checked p (min limit 16383) (body s) ≡ contents p (body s)
       words = contents-asked p limit (body s) (λ e. z (n ∙ e)) (omega arith) (omega (arith, few))
 
-      pub words-refused : {r : Refusal} → checked p (min limit 16383) (body s) ≡ Refused r → headed_checked p limit s ≡ Refused r
+      pub words-refused : {r : Refusal} → checked p (min limit 16383) (body s) ≡ Err r → headed_checked p limit s ≡ Err r
       unfolding last
       words-refused e = rest ∙ rw (← words, e)
 
-      module _ (e : checked p (min limit 16383) (body s) ≡ Accepted) where
-        pub header_wrong : (header s ≡ header_of (body s) → ⊥) → headed_checked p limit s ≡ Refused HeaderWrong
+      module _ (e : checked p (min limit 16383) (body s) ≡ Ok tt) where
+        pub header_wrong : (header s ≡ header_of (body s) → ⊥) → headed_checked p limit s ≡ Err HeaderWrong
         unfolding last
         header_wrong w = rest ∙ rw (← words, e) (by_test (is_misheaded s) refl)
           where
-            by_test : (b : Bool) → is_misheaded s ≡ b → decide_by b HeaderWrong Accepted ≡ Refused HeaderWrong
+            by_test : (b : Bool) → is_misheaded s ≡ b → decide_by b HeaderWrong (Ok tt) ≡ Err HeaderWrong
             by_test true f = refl
             by_test false f = absurd (w (header_is s n f))
 
-        pub header_right : header s ≡ header_of (body s) → headed_checked p limit s ≡ Accepted
+        pub header_right : header s ≡ header_of (body s) → headed_checked p limit s ≡ Ok tt
         unfolding last
         header_right w = rest ∙ rw (← words, e, header-theirs (body s) few s w refl)

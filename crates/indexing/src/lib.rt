@@ -4,7 +4,7 @@
 ghost use Rattle.std.specs.Prelude.{List, [], ◌∷◌, ◌++◌, ℕ, ◌+◌, ◌≤◌, ◌<◌, length};
 ghost use Rattle.lookup.specs.Index.{count_of, half_of, Indexed};
 
-use lookup::{bucket, wide};
+use lookup::bucket;
 
 // One word more, at the front of its chain.
 pub fn add(index: &mut [u16], w: u32)
@@ -14,7 +14,7 @@ pub fn add(index: &mut [u16], w: u32)
     let half = index.len() / 2;
     let head = half + bucket(half, w);
     let number = index[0] + 1;
-    let n = wide(number);
+    let n = usize::from(number);
     index[n] = index[head];
     index[head] = number;
     index[0] = number;

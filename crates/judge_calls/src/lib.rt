@@ -46,11 +46,8 @@ pub fn judge<'a>(
         tally,
     };
     let judged = evaluation::judge(table, samples, start, driven, scratch, named);
-    let answer = judged.answer;
-    let number = judge_reply(answer, holds, moments, failing, place);
-    let after = judged.tally;
     Called {
-        number,
-        tally: after,
+        number: judge_reply(judged.answer, holds, moments, failing, place),
+        tally: judged.tally,
     }
 }

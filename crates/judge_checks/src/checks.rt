@@ -4,7 +4,7 @@ ghost use Rattle.refusals.specs.Refusals.{first};
 ghost use Rattle.judge_conditions.specs.Checks.{row_checks, judge_checks};
 
 use lent_checks::{check_desk, check_memory};
-use refusals::Outcome;
+use refusals::Refusal;
 use tally::Desk;
 
 // The row call's.
@@ -14,13 +14,11 @@ pub fn check_row(
     start: usize,
     driven: usize,
     scratch: usize,
-) -> Outcome
+) -> Result<(), Refusal>
     ensures { result ≡ first (row_checks table.now samples start driven scratch) }
 {
-    match heading::check(table, false, 16383) {
-        Outcome::Refused(why) => Outcome::Refused(why),
-        Outcome::Accepted => check_memory(&table[1..], samples, start, driven, scratch),
-    }
+    heading::check(table, false, 16383)?;
+    check_memory(&table[1..], samples, start, driven, scratch)
 }
 
 // The judge's, likewise.
@@ -31,11 +29,9 @@ pub fn check_judge(
     driven: usize,
     scratch: usize,
     desk: Desk,
-) -> Outcome
+) -> Result<(), Refusal>
     ensures { result ≡ first (judge_checks table.now samples start driven scratch desk) }
 {
-    match check_row(table, samples, start, driven, scratch) {
-        Outcome::Refused(why) => Outcome::Refused(why),
-        Outcome::Accepted => check_desk(desk),
-    }
+    check_row(table, samples, start, driven, scratch)?;
+    check_desk(desk)
 }

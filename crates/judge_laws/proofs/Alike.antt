@@ -13,8 +13,8 @@ use Rattle.logic.specs.Truth.{Sequence, truth}
 use Rattle.logic.proofs.Lasso.Driven.{agree-truth}
 use Rattle.logic.proofs.Lasso.Period.{place_lt}
 use Rattle.row_words.specs.Row.{row, row_words}
-use Rattle.refusals.specs.declared.Outcome.{Outcome}
-use Rattle.refusals.specs.declared.Outcome.TheVariants.{Accepted, Refused}
+use Rattle.refusals.specs.Refusals.{Outcome}
+use Rattle.std.specs.Prelude.{Ok, Err}
 use Rattle.table.specs.Table.{formulas, rule}
 use Rattle.table.specs.Header.{body}
 use Rattle.table.proofs.Formulas.{length-formulas}
@@ -49,7 +49,7 @@ module _ {r r' : Lasso} (agree : Agree r r') (size : length r.samples ≡ length
   unfolding rows_then
   rows_then-alike φs s d = ap₂ (λ (x : List ℕ) (n : ℕ). x ++ drop (length φs * row_words n) s) (rows_of-alike φs d) size
 
-  reply-alike : (φ : Formula) (tally : Tally) → Drives r φ → reply_by Accepted r φ tally ≡ reply_by Accepted r' φ tally
+  reply-alike : (φ : Formula) (tally : Tally) → Drives r φ → reply_by (Ok tt) r φ tally ≡ reply_by (Ok tt) r' φ tally
   unfolding reply_by
   reply-alike φ tally d = ap₂ answers (truth-alike φ d) size
     where
@@ -74,8 +74,8 @@ module _ (t samples samples' : List ℕ) (start driven : ℕ) (scratch : List �
   unfolding judge_outcome
   judge_outcome_lem desk = rw alike.long
 
-  module _ (accepted : row_outcome t samples start driven scratch ≡ Accepted) where
-    accepted' : row_outcome t samples' start driven scratch ≡ Accepted
+  module _ (accepted : row_outcome t samples start driven scratch ≡ Ok tt) where
+    accepted' : row_outcome t samples' start driven scratch ≡ Ok tt
     accepted' = sym row_outcome_lem ∙ accepted
 
     i : Inside samples start driven
@@ -112,26 +112,26 @@ module _ (t samples samples' : List ℕ) (start driven : ℕ) (scratch : List �
     rule_drive = rule-drives t samples start driven scratch accepted
 
   -- what becomes of the scratch, and what is handed back, by an outcome that accepts only what the row call accepts
-  scratch_by : (o : Outcome) → (o ≡ Accepted → row_outcome t samples start driven scratch ≡ Accepted)
+  scratch_by : (o : Outcome) → (o ≡ Ok tt → row_outcome t samples start driven scratch ≡ Ok tt)
       → scratch_after o t samples start driven scratch ≡ scratch_after o t samples' start driven scratch
   unfolding scratch_after r r'
-  scratch_by Accepted a = let e = a refl in rows_then-alike (agree e) (size e) (formulas (body t)) scratch (formulas_drive e)
-  scratch_by (Refused why) a = refl
+  scratch_by (Ok tt) a = let e = a refl in rows_then-alike (agree e) (size e) (formulas (body t)) scratch (formulas_drive e)
+  scratch_by (Err why) a = refl
 
-  part_by : (o : Outcome) → (o ≡ Accepted → row_outcome t samples start driven scratch ≡ Accepted) → last_row o t samples start driven ≡ last_row o t samples' start driven
+  part_by : (o : Outcome) → (o ≡ Ok tt → row_outcome t samples start driven scratch ≡ Ok tt) → last_row o t samples start driven ≡ last_row o t samples' start driven
   unfolding last_row r r'
-  part_by Accepted a = let e = a refl in row-alike (agree e) (size e) (rule (body t)) (rule_drive e)
-  part_by (Refused why) a = refl
+  part_by (Ok tt) a = let e = a refl in row-alike (agree e) (size e) (rule (body t)) (rule_drive e)
+  part_by (Err why) a = refl
 
   at_by : (o : Outcome) (p : ℕ × ℕ) → part_at o t samples p ≡ part_at o t samples' p
   unfolding part_at
-  at_by Accepted p = ap (λ (n : ℕ). (p.0, (length (body t) - 1) * row_words n * 8 + p.1)) alike.long
-  at_by (Refused why) p = refl
+  at_by (Ok tt) p = ap (λ (n : ℕ). (p.0, (length (body t) - 1) * row_words n * 8 + p.1)) alike.long
+  at_by (Err why) p = refl
 
-  reply_by_lem : (o : Outcome) (tally : Tally) → (o ≡ Accepted → row_outcome t samples start driven scratch ≡ Accepted) → reply_by o r (rule (body t)) tally ≡ reply_by o r' (rule (body t)) tally
+  reply_by_lem : (o : Outcome) (tally : Tally) → (o ≡ Ok tt → row_outcome t samples start driven scratch ≡ Ok tt) → reply_by o r (rule (body t)) tally ≡ reply_by o r' (rule (body t)) tally
   unfolding reply_by
-  reply_by_lem Accepted tally a = let e = a refl in reply-alike (agree e) (size e) (rule (body t)) tally (rule_drive e)
-  reply_by_lem (Refused why) tally a = refl
+  reply_by_lem (Ok tt) tally a = let e = a refl in reply-alike (agree e) (size e) (rule (body t)) tally (rule_drive e)
+  reply_by_lem (Err why) tally a = refl
 
   -- the row call: its outcome, the scratch, the part that is handed back and where it lies
   pub row-judged-alike : (row_outcome t samples start driven scratch ≡ row_outcome t samples' start driven scratch)

@@ -23,8 +23,8 @@ use Rattle.logic.specs.Bit.{bit}
 use Rattle.row_words.specs.Row.{digit, row, row_words, word_of, count_true, first_false}
 use Rattle.row_words.proofs.Bits.{bit_above, pack_lt}
 use Rattle.row_words.proofs.Rows.{row_length, row_word, word-bit}
-use Rattle.refusals.specs.declared.Outcome.{Outcome}
-use Rattle.refusals.specs.declared.Outcome.TheVariants.{Accepted, Refused}
+use Rattle.refusals.specs.Refusals.{Outcome}
+use Rattle.std.specs.Prelude.{Ok, Err}
 use Rattle.refusals.specs.Refusals.{outcome_number, outcome_place}
 use Rattle.table.specs.Table.{formula_of, formulas, rule}
 use Rattle.table.specs.Header.{body}
@@ -69,7 +69,7 @@ unfolding row_of
 place-bit r φ i =
     row-bit (length r.samples) (truth r φ) _ (place_lt (length r.samples) r.start i r.inside) ∙ sym (truth-place r φ i)
 
-module _ (t samples : List ℕ) (start driven : ℕ) (scratch : List ℕ) (accepted : row_outcome t samples start driven scratch ≡ Accepted) where
+module _ (t samples : List ℕ) (start driven : ℕ) (scratch : List ℕ) (accepted : row_outcome t samples start driven scratch ≡ Ok tt) where
   facts : Judgeable t (length samples) start driven (length scratch)
   facts = accepted-facts t samples start driven scratch accepted
 
@@ -129,7 +129,7 @@ module _ (t samples : List ℕ) (start driven : ℕ) (scratch : List ℕ) (accep
       says same (truth-holds (lasso_of samples start driven) φ i)
 
 -- the row call
-pub row_promise : (t samples : List ℕ) (start driven : ℕ) (scratch : List ℕ) → row_outcome t samples start driven scratch ≡ Accepted
+pub row_promise : (t samples : List ℕ) (start driven : ℕ) (scratch : List ℕ) → row_outcome t samples start driven scratch ≡ Ok tt
     → (j : ℕ) → j < length (body t) → (i : ℕ)
     → T (holds_in (row_number (row_words (length samples)) j (scratch_after (row_outcome t samples start driven scratch) t samples start driven scratch)) (place (length samples) start i))
     ↔ Holds (word (lasso_of samples start driven)) (get_or (formulas (body t)) j (const false)) i
@@ -137,7 +137,7 @@ unfolding Promise
 row_promise t samples start driven scratch e = promised t samples start driven scratch e _ (accepted-scratch t samples start driven scratch e)
 
 -- the judge
-pub judge_promise : (t samples : List ℕ) (start driven : ℕ) (scratch : List ℕ) (desk : Desk) → judge_outcome t samples start driven scratch desk ≡ Accepted
+pub judge_promise : (t samples : List ℕ) (start driven : ℕ) (scratch : List ℕ) (desk : Desk) → judge_outcome t samples start driven scratch desk ≡ Ok tt
     → (j : ℕ) → j < length (body t) → (i : ℕ)
     → T (holds_in (row_number (row_words (length samples)) j (scratch_after (judge_outcome t samples start driven scratch desk) t samples start driven scratch)) (place (length samples) start i))
     ↔ Holds (word (lasso_of samples start driven)) (get_or (formulas (body t)) j (const false)) i
@@ -191,11 +191,11 @@ said_outcome t samples start driven scratch desk = by (judge_outcome t samples s
   where
     by : (o : Outcome) → ((said (reply_by o (lasso_of samples start driven) (rule (body t)) desk.tally).answer).number ≡ outcome_number o)
         × ((said (reply_by o (lasso_of samples start driven) (rule (body t)) desk.tally).answer).place ≡ outcome_place o)
-    by Accepted = (refl, refl)
-    by (Refused why) = (refl, refl)
+    by (Ok tt) = (refl, refl)
+    by (Err why) = (refl, refl)
 
 -- an accepted judgement, by the meaning of the rule
-pub accepted-judgement : (t samples : List ℕ) (start driven : ℕ) (scratch : List ℕ) (desk : Desk) → judge_outcome t samples start driven scratch desk ≡ Accepted
+pub accepted-judgement : (t samples : List ℕ) (start driven : ℕ) (scratch : List ℕ) (desk : Desk) → judge_outcome t samples start driven scratch desk ≡ Ok tt
     → Judges (Holds (word (lasso_of samples start driven)) (rule (body t))) (length samples) (said (reply t samples start driven scratch desk).answer)
     (last_row (row_outcome t samples start driven scratch) t samples start driven)
 unfolding reply last_row reply_by row_of

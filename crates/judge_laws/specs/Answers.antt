@@ -1,10 +1,9 @@
 -- A judgement's answer by document 01: its number and place, and the values of an accepted one; and what those values say of a rule.
-use Rattle.std.specs.Prelude.{ℕ, zero, suc, ◌/◌, ◌%◌, ◌<◌, ◌≡◌, ◌↔◌, ◌⊎◌, Bool, false, List, get_or, T}
+use Rattle.std.specs.Prelude.{ℕ, zero, suc, ◌/◌, ◌%◌, ◌<◌, ◌≡◌, ◌↔◌, ◌⊎◌, Bool, false, List, get_or, T, Ok, Err}
 use Rattle.logic.specs.Bit.{bit}
 use Rattle.logic.specs.Semantics.{Predicate}
 use Rattle.refusals.specs.Refusals.{number_of, place_of}
-use Rattle.judging.specs.declared.answer.Judgement.{Judgement}
-use Rattle.judging.specs.declared.answer.Judgement.TheVariants.{Judged, Refused}
+use Rattle.judging.specs.Judging.{JudgeAnswer}
 
 pub record Said : Type 0 where
   pub number : ℕ
@@ -14,9 +13,9 @@ pub record Said : Type 0 where
   pub failing : ℕ
 
 -- number and place are 0 where the judgement is accepted; where it is refused, nothing holds
-abbrev pub said : Judgement → Said
-said (Judged h m f) = record { number = 0; place = 0; holds = h; moments = m; failing = f }
-said (Refused why) = record { number = number_of why; place = place_of why; holds = false; moments = 0; failing = 0 }
+abbrev pub said : JudgeAnswer → Said
+said (Ok j) = record { number = 0; place = 0; holds = j.holds; moments = j.moments; failing = j.failing }
+said (Err why) = record { number = number_of why; place = place_of why; holds = false; moments = 0; failing = 0 }
 
 -- m of the n first positions satisfy P
 pub data Count (P : Predicate) : ℕ → ℕ → Type 0 where

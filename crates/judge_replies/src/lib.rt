@@ -4,36 +4,26 @@
 ghost use Rattle.judge_replies.specs.Replies.{JudgeReply};
 
 use judging::answer::Judgement;
+use outcome_replies::reply;
+use refusals::Refusal;
 
 // What a judgement says, or the refusal, in lent numbers.
 pub fn judge_reply(
-    j: Judgement,
+    answer: Result<Judgement, Refusal>,
     holds: &mut bool,
     moments: &mut usize,
     failing: &mut usize,
     place: &mut usize,
 ) -> u32
-    ensures { JudgeReply j result holds.new moments.new failing.new place.new }
+    ensures { JudgeReply answer result holds.new moments.new failing.new place.new }
 {
-    match j {
-        Judgement::Judged {
-            holds: h,
-            moments: m,
-            failing: f,
-        } => {
-            *holds = h;
-            *moments = m;
-            *failing = f;
-            *place = 0;
-            0
-        }
-        Judgement::Refused(r) => {
-            *holds = false;
-            *moments = 0;
-            *failing = 0;
-            let report = reports::report_of(r);
-            *place = report.1;
-            report.0
-        }
-    }
+    let told = answer.unwrap_or(Judgement {
+        holds: false,
+        moments: 0,
+        failing: 0,
+    });
+    *holds = told.holds;
+    *moments = told.moments;
+    *failing = told.failing;
+    reply(answer.map(|_| ()), place)
 }

@@ -11,8 +11,8 @@ use Rattle.logic.specs.Lasso.{Lasso}
 use Rattle.logic.specs.Truth.{Sequence, truth}
 use Rattle.row_words.specs.Row.{row, count_true, first_false}
 use Rattle.row_words.specs.Writing.{RowFor}
-use Rattle.refusals.specs.declared.Outcome.{Outcome}
-use Rattle.refusals.specs.declared.Outcome.TheVariants.{Accepted, Refused}
+use Rattle.refusals.specs.Refusals.{Outcome}
+use Rattle.std.specs.Prelude.{Ok, Err}
 use Rattle.refusals.specs.declared.Refusal.{Refusal}
 use Rattle.table.specs.Table.{formula_of, formulas, rule}
 use Rattle.table.specs.Header.{body}
@@ -21,25 +21,23 @@ use Rattle.table.proofs.Accepted.{accepted-well-formed}
 use Rattle.table.proofs.Formulas.{length-formulas}
 use Rattle.tally.specs.declared.Tally.{Tally}
 use Rattle.tally.specs.declared.Desk.{Desk}
-use Rattle.judging.specs.declared.answer.Judgement.{Judgement}
-use Rattle.judging.specs.declared.answer.Judgement.TheVariants.{Judged as JudgedAs, Refused as NotJudged}
 use Rattle.judging.specs.declared.answer.Judged.{Judged}
 use Rattle.tally.specs.Tallies.{is_full, counted, tally_after}
 use Rattle.table_rows.specs.Rows.{Fillable, lasso_of, row_of, rows_then}
-use Rattle.judging.specs.Judging.{judgement, reply_by, row_outcome, judge_outcome, reply, scratch_after, last_row, part_at}
+use Rattle.judging.specs.Judging.{JudgeAnswer, judgement, reply_by, row_outcome, judge_outcome, reply, scratch_after, last_row, part_at}
 use Rattle.judge_conditions.proofs.Outcomes.{judge_both, desk-accepted}
 use Rattle.table_rows.proofs.Rows.{width, row_part}
 use Rattle.table_rows.proofs.Parts.{Inside, lasso_inside, part_small, part_end, part_for}
 
 -- what the judge accepts the row call accepts
 pub judge_rows : (t samples : List ℕ) (start driven : ℕ) (s : List ℕ) (desk : Desk)
-    → judge_outcome t samples start driven s desk ≡ Accepted → row_outcome t samples start driven s ≡ Accepted
+    → judge_outcome t samples start driven s desk ≡ Ok tt → row_outcome t samples start driven s ≡ Ok tt
 unfolding judge_outcome row_outcome
 judge_rows t samples start driven s desk e = (judge_both t (length samples) start driven (length s) desk e).0
 
 -- and the desk that it names has a tally, which is not full
 pub judge_desk : (t samples : List ℕ) (start driven : ℕ) (s : List ℕ) (desk : Desk)
-    → judge_outcome t samples start driven s desk ≡ Accepted → (desk.number < desk.desks) × (is_full desk.tally ≡ false)
+    → judge_outcome t samples start driven s desk ≡ Ok tt → (desk.number < desk.desks) × (is_full desk.tally ≡ false)
 unfolding judge_outcome
 judge_desk t samples start driven s desk e = desk-accepted desk (judge_both t (length samples) start driven (length s) desk e).1
 
@@ -91,7 +89,7 @@ tally_counted c holds e = ap (λ (b : Bool). cond b c (counted c holds)) e
 
 -- the three answers, from what is read off a row
 pub judged_is : (f : Sequence) (L : ℕ) (holds : Bool) (moments failing : ℕ) → holds ≡ f 0 → moments ≡ count_true f L → failing ≡ first_false f 0 L
-    → JudgedAs holds moments failing ≡ judgement f L
+    → ◌≡◌ {A = JudgeAnswer} (Ok (record { holds = holds; moments = moments; failing = failing })) (judgement f L)
 judged_is f L holds moments failing a b c = cc
 
 -- what is read off the rule's row is the reply to an accepted judgement
@@ -99,56 +97,56 @@ pub accepted-answer : (t samples : List ℕ) (start driven : ℕ) (part : List �
     → start < length samples → driven ≤ 32 → is_full tally ≡ false
     → part ≡ row_of (lasso_of samples start driven) (rule t)
     → ((f : Sequence) → part ≡ row (length samples) f → (j.answer ≡ judgement f (length samples)) × (j.tally ≡ tally_after tally (f 0)))
-    → j ≡ reply_by Accepted (lasso_of samples start driven) (rule t) tally
+    → j ≡ reply_by (Ok tt) (lasso_of samples start driven) (rule t) tally
 unfolding reply_by row_of
 accepted-answer t samples start driven part tally j inside few e p read =
     let i : Inside samples start driven = lasso_inside samples start driven inside few in
     let r : Lasso = record { samples = samples; start = start; driven = driven; inside = i.0; few = i.1 } in
     let f : Sequence = truth r (rule t) in
     let known = read f (subst (λ (x : Lasso). part ≡ row_of x (rule t)) i.2 p) in
-    let built : j ≡ reply_by Accepted r (rule t) tally = as_judged known.0 (known.1 ∙ tally_counted tally (f 0) e) in
-    built ∙ ap (λ (x : Lasso). reply_by Accepted x (rule t) tally) (sym i.2)
+    let built : j ≡ reply_by (Ok tt) r (rule t) tally = as_judged known.0 (known.1 ∙ tally_counted tally (f 0) e) in
+    built ∙ ap (λ (x : Lasso). reply_by (Ok tt) x (rule t) tally) (sym i.2)
   where
-    as_judged : {a : Judgement} {c : Tally} → j.answer ≡ a → j.tally ≡ c → j ≡ record { answer = a; tally = c }
-    as_judged d h = ap₂ (λ (a : Judgement) (c : Tally). record { answer = a; tally = c }) d h
+    as_judged : {a : JudgeAnswer} {c : Tally} → j.answer ≡ a → j.tally ≡ c → j ≡ record { answer = a; tally = c }
+    as_judged d h = ap₂ (λ (a : JudgeAnswer) (c : Tally). record { answer = a; tally = c }) d h
 
 -- the reply, by what the checks say
-pub accepted-reply : (t samples : List ℕ) (start driven : ℕ) (s : List ℕ) (desk : Desk) → judge_outcome t samples start driven s desk ≡ Accepted
-    → reply_by Accepted (lasso_of samples start driven) (rule (body t)) desk.tally ≡ reply t samples start driven s desk
+pub accepted-reply : (t samples : List ℕ) (start driven : ℕ) (s : List ℕ) (desk : Desk) → judge_outcome t samples start driven s desk ≡ Ok tt
+    → reply_by (Ok tt) (lasso_of samples start driven) (rule (body t)) desk.tally ≡ reply t samples start driven s desk
 unfolding reply
 accepted-reply t samples start driven s desk e = ap (λ (o : Outcome). reply_by o (lasso_of samples start driven) (rule (body t)) desk.tally) (sym e)
 
 pub refused-reply : (t samples : List ℕ) (start driven : ℕ) (s : List ℕ) (desk : Desk) (why : Refusal)
-    → judge_outcome t samples start driven s desk ≡ Refused why → record { answer = NotJudged why; tally = desk.tally } ≡ reply t samples start driven s desk
+    → judge_outcome t samples start driven s desk ≡ Err why → record { answer = Err why; tally = desk.tally } ≡ reply t samples start driven s desk
 unfolding reply reply_by
 refused-reply t samples start driven s desk why e = ap (λ (o : Outcome). reply_by o (lasso_of samples start driven) (rule (body t)) desk.tally) (sym e)
 
 -- ---- the scratch and the part, by what the checks say
 
-pub accepted-scratch : {o : Outcome} (t samples : List ℕ) (start driven : ℕ) (s : List ℕ) → o ≡ Accepted
+pub accepted-scratch : {o : Outcome} (t samples : List ℕ) (start driven : ℕ) (s : List ℕ) → o ≡ Ok tt
     → rows_then (lasso_of samples start driven) (formulas (body t)) s ≡ scratch_after o t samples start driven s
 unfolding scratch_after
 accepted-scratch t samples start driven s e = ap (λ (o : Outcome). scratch_after o t samples start driven s) (sym e)
 
-pub refused-scratch : {o : Outcome} {why : Refusal} (t samples : List ℕ) (start driven : ℕ) (s : List ℕ) → o ≡ Refused why
+pub refused-scratch : {o : Outcome} {why : Refusal} (t samples : List ℕ) (start driven : ℕ) (s : List ℕ) → o ≡ Err why
     → s ≡ scratch_after o t samples start driven s
 unfolding scratch_after
 refused-scratch t samples start driven s e = ap (λ (o : Outcome). scratch_after o t samples start driven s) (sym e)
 
-pub accepted_part : {o : Outcome} (t samples : List ℕ) (start driven : ℕ) → o ≡ Accepted
+pub accepted_part : {o : Outcome} (t samples : List ℕ) (start driven : ℕ) → o ≡ Ok tt
     → row_of (lasso_of samples start driven) (rule (body t)) ≡ last_row o t samples start driven
 unfolding last_row
 accepted_part t samples start driven e = ap (λ (o : Outcome). last_row o t samples start driven) (sym e)
 
-pub refused_part : {o : Outcome} {why : Refusal} (t samples : List ℕ) (start driven : ℕ) → o ≡ Refused why → [] ≡ last_row o t samples start driven
+pub refused_part : {o : Outcome} {why : Refusal} (t samples : List ℕ) (start driven : ℕ) → o ≡ Err why → [] ≡ last_row o t samples start driven
 unfolding last_row
 refused_part t samples start driven e = ap (λ (o : Outcome). last_row o t samples start driven) (sym e)
 
-pub accepted_at : {o : Outcome} (t samples : List ℕ) (p : ℕ × ℕ) {words : ℕ} → o ≡ Accepted → words ≡ row_words (length samples)
+pub accepted_at : {o : Outcome} (t samples : List ℕ) (p : ℕ × ℕ) {words : ℕ} → o ≡ Ok tt → words ≡ row_words (length samples)
     → ◌≡◌ {A = ℕ × ℕ} (p.0, (length t - 2) * words * 8 + p.1) (part_at o t samples p)
 unfolding part_at
 accepted_at t samples p e wide = ap₂ (λ (n x : ℕ). (p.0, n * x * 8 + p.1)) (words_before t) wide ∙ ap (λ (o : Outcome). part_at o t samples p) (sym e)
 
-pub refused_at : {o : Outcome} {why : Refusal} (t samples : List ℕ) (p : ℕ × ℕ) → o ≡ Refused why → ◌≡◌ {A = ℕ × ℕ} (p.0, 0 * 8 + p.1) (part_at o t samples p)
+pub refused_at : {o : Outcome} {why : Refusal} (t samples : List ℕ) (p : ℕ × ℕ) → o ≡ Err why → ◌≡◌ {A = ℕ × ℕ} (p.0, 0 * 8 + p.1) (part_at o t samples p)
 unfolding part_at
 refused_at t samples p e = ap (λ (x : ℕ). (p.0, x)) (zero-add p.1) ∙ ap (λ (o : Outcome). part_at o t samples p) (sym e)

@@ -8,14 +8,12 @@ use Rattle.logic.specs.Formula.{Formula}
 use Rattle.logic.specs.Lasso.{Lasso}
 use Rattle.table.specs.Table.{rule}
 use Rattle.table.specs.Header.{body}
-use Rattle.refusals.specs.declared.Outcome.{Outcome}
-use Rattle.refusals.specs.declared.Outcome.TheVariants.{Accepted, Refused}
+use Rattle.refusals.specs.Refusals.{Outcome}
+use Rattle.std.specs.Prelude.{Ok, Err}
 use Rattle.tally.specs.declared.Tally.{Tally}
 use Rattle.tally.specs.Tallies.{none_judged}
 use Rattle.table_rows.specs.Rows.{lasso_of}
-use Rattle.judging.specs.declared.answer.Judgement.{Judgement}
-use Rattle.judging.specs.declared.answer.Judgement.TheVariants.{Judged as JudgedAs, Refused as NotJudged}
-use Rattle.judging.specs.Judging.{judge_outcome, reply_by, reply, desk_of, tallies_after}
+use Rattle.judging.specs.Judging.{JudgeAnswer, judge_outcome, reply_by, reply, desk_of, tallies_after}
 
 -- a tally that is put where it stands, or past the last, changes nothing
 set_same : (tallies : List Tally) (n : ℕ) → n < length tallies → set tallies n (get_or tallies n none_judged) ≡ tallies
@@ -40,10 +38,10 @@ unfolding reply reply_by tallies_after
 tallies_inside t samples start driven scratch tallies n l = by (judge_outcome t samples start driven scratch (desk_of tallies n)) (lasso_of samples start driven) (rule (body t))
   where
     by : (o : Outcome) (r : Lasso) (φ : Formula) → set tallies n (reply_by o r φ (desk_of tallies n).tally).tally ≡ tallies_after (reply_by o r φ (desk_of tallies n).tally).answer tallies n
-    by Accepted r φ = refl
-    by (Refused why) r φ = set_same tallies n l
+    by (Ok tt) r φ = refl
+    by (Err why) r φ = set_same tallies n l
 
-pub tallies_outside : (answer : Judgement) (tallies : List Tally) (n : ℕ) → length tallies ≤ n → tallies ≡ tallies_after answer tallies n
+pub tallies_outside : (answer : JudgeAnswer) (tallies : List Tally) (n : ℕ) → length tallies ≤ n → tallies ≡ tallies_after answer tallies n
 unfolding tallies_after
-tallies_outside (JudgedAs holds moments failing) tallies n l = sym (set_past tallies n _ l)
-tallies_outside (NotJudged why) tallies n l = refl
+tallies_outside (Ok j) tallies n l = sym (set_past tallies n _ l)
+tallies_outside (Err why) tallies n l = refl

@@ -8,30 +8,33 @@ ghost use Rattle.judge_conditions.specs.Checks.{recording_checks, scratch_checks
 
 use letter_checks::check_letters;
 use recording_checks::check_recording;
-use refusals::{Outcome, Refusal};
+use refusals::Refusal;
 use row_words::row_word::row_words;
 use tally::Desk;
 
 // 16.
-pub fn check_scratch(words: usize, samples: usize, scratch: usize) -> Outcome
+pub fn check_scratch(words: usize, samples: usize, scratch: usize) -> Result<(), Refusal>
     requires { (words ≤ 16383) × (samples ≤ 4096) }
     ensures { result ≡ first (scratch_checks words samples scratch) }
 {
     if scratch < words * row_words(samples) {
-        return Outcome::Refused(Refusal::ScratchTooShort);
+        return Err(Refusal::ScratchTooShort);
     }
-    Outcome::Accepted
+    Ok(())
 }
 
 // 21, then 16.
-pub fn check_words(table: &[u32], samples: usize, driven: usize, scratch: usize) -> Outcome
+pub fn check_words(
+    table: &[u32],
+    samples: usize,
+    driven: usize,
+    scratch: usize,
+) -> Result<(), Refusal>
     requires { (length table.now ≤ 16383) × (samples ≤ 4096) }
     ensures { result ≡ first (letter_checks driven 1 table.now ++ scratch_checks (length table.now) samples scratch) }
 {
-    match check_letters(table, driven) {
-        Outcome::Refused(why) => Outcome::Refused(why),
-        Outcome::Accepted => check_scratch(table.len(), samples, scratch),
-    }
+    check_letters(table, driven)?;
+    check_scratch(table.len(), samples, scratch)
 }
 
 // 13 to 15, 22, 21 and 16, of the words of a table that passes the checks before them.
@@ -41,27 +44,24 @@ pub fn check_memory(
     start: usize,
     driven: usize,
     scratch: usize,
-) -> Outcome
+) -> Result<(), Refusal>
     requires { length table.now ≤ 16383 }
     ensures { result ≡ first (recording_checks samples start driven
         ++ (letter_checks driven 1 table.now ++ scratch_checks (length table.now) samples scratch)) }
 {
-    match check_recording(samples, start, driven) {
-        Outcome::Refused(why) => Outcome::Refused(why),
-        Outcome::Accepted => check_words(table, samples, driven, scratch),
-    }
+    check_recording(samples, start, driven)?;
+    check_words(table, samples, driven, scratch)
 }
 
 // 26, then 17.
-pub fn check_desk(desk: Desk) -> Outcome
+pub fn check_desk(desk: Desk) -> Result<(), Refusal>
     ensures { result ≡ first (desk_checks desk) }
 {
     if desk.number >= desk.desks {
-        return Outcome::Refused(Refusal::DeskOutside);
+        return Err(Refusal::DeskOutside);
     }
-    let tally = desk.tally;
-    if tally.full() {
-        return Outcome::Refused(Refusal::TallyFull);
+    if desk.tally.full() {
+        return Err(Refusal::TallyFull);
     }
-    Outcome::Accepted
+    Ok(())
 }

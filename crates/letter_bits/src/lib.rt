@@ -10,7 +10,7 @@ fn letter_bit(sample: u32, letter: u32) -> u64
     requires { (1 ≤ letter) × (letter ≤ 32) }
     ensures { (result ≡ rows.digit (letter_in sample letter)) × (result < 2) }
 {
-    ((sample >> (letter - 1)) % 2) as u64
+    u64::from((sample >> (letter - 1)) % 2)
 }
 
 // A letter at the four samples from the first on.
@@ -38,9 +38,7 @@ pub fn one_by_one(samples: &[u32], first: usize, n: usize, letter: u32) -> u64
     ensures { result ≡ rows.pack_bits (λ i. letter_in (get_or samples.now i 0) letter) first n }
 {
     let mut word: u64 = 0;
-    let mut i = n;
-    while 0 < i {
-        i -= 1;
+    for i in (0..n).rev() {
         word = word * 2 + letter_bit(samples[first + i], letter);
     }
     word

@@ -8,7 +8,7 @@ use native.Mathlib.Omega.{arith}
 use lib.ListN.{length, get_or, drop}
 use lib.Seq.{drop-cons, drop-length}
 use Rattle.refusals.specs.declared.Refusal.TheVariants.{LetterNotDriven}
-use Rattle.refusals.specs.declared.Outcome.TheVariants.{Accepted, Refused}
+use Rattle.std.specs.Prelude.{Ok, Err}
 use Rattle.refusals.specs.Refusals.{first, decide_by}
 use Rattle.table.specs.StepChecks.{is_undriven, letter_checks}
 
@@ -29,13 +29,13 @@ module _ {t : List ℕ} {driven i : ℕ} (p : Passing t driven i) where
         ∙ ap (λ (ws : List ℕ). first (letter_checks driven (suc i) ws)) (drop-cons t i 0 h)
         ∙ ap (λ (x : Bool). decide_by x (LetterNotDriven (suc i)) (first (letter_checks driven (suc (suc i)) (drop (suc i) t)))) (sym e)
 
-    pub passing_refused : b ≡ true → Refused (LetterNotDriven (i + 1)) ≡ first (letter_checks driven 1 t)
-    passing_refused f = ap (λ (n : ℕ). Refused (LetterNotDriven n)) (add-one i) ∙ sym (rw f at here)
+    pub passing_refused : b ≡ true → Err (LetterNotDriven (i + 1)) ≡ first (letter_checks driven 1 t)
+    passing_refused f = ap (λ (n : ℕ). Err (LetterNotDriven n)) (add-one i) ∙ sym (rw f at here)
 
     pub passing_next : b ≡ false → Passing t driven (i + 1)
     passing_next f = rw (add-one i) (record { within = h; left = rw f at here })
 
-  pub passing_all : length t ≤ i → Accepted ≡ first (letter_checks driven 1 t)
+  pub passing_all : length t ≤ i → (Ok tt) ≡ first (letter_checks driven 1 t)
   unfolding letter_checks
   passing_all h =
       let n : i ≡ length t = omega (arith, p.within) in

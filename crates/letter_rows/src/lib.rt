@@ -15,11 +15,9 @@ fn by_eights(samples: &[u32], first: usize, n: usize, letter: u32) -> u64
     ensures { result ≡ rows.pack_bits (λ i. letter_in (get_or samples.now i 0) letter) first n }
 {
     let over = n % 8;
-    let mut i = n - over;
-    let mut word = one_by_one(samples, first + i, over, letter);
-    while 0 < i {
-        i -= 8;
-        word = word * 256 + eight(samples, first + i, letter);
+    let mut word = one_by_one(samples, first + (n - over), over, letter);
+    for k in (0..n / 8).rev() {
+        word = word * 256 + eight(samples, first + k * 8, letter);
     }
     word
 }
@@ -30,10 +28,7 @@ fn letters(samples: &[u32], first: usize, n: usize, letter: u32, positive: bool)
     ensures { result ≡ rows.pack_bits (λ i. literal letter positive (get_or samples.now i 0)) first n }
 {
     let word = by_eights(samples, first, n, letter);
-    if positive {
-        return word;
-    }
-    ones(n) ^ word
+    if positive { word } else { ones(n) ^ word }
 }
 
 pub fn write_letter(row: &mut [u64], samples: &[u32], letter: u32, positive: bool)
@@ -42,9 +37,7 @@ pub fn write_letter(row: &mut [u64], samples: &[u32], letter: u32, positive: boo
     ensures { row.new
         ≡ rows.row (length samples.now) (λ i. literal letter positive (get_or samples.now i 0)) }
 {
-    let mut w = 0;
-    while w < row.len() {
-        row[w] = letters(samples, w * 64, filled(samples.len(), w), letter, positive);
-        w += 1;
+    for (w, word) in row.iter_mut().enumerate() {
+        *word = letters(samples, w * 64, filled(samples.len(), w), letter, positive);
     }
 }

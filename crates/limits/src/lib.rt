@@ -9,13 +9,7 @@ use table::settings::Limits;
 pub fn permitted(l: Limits) -> bool
     ensures { result ≡ limits.is_permitted l }
 {
-    if l.written < 1 {
-        return false;
-    }
-    if 256 < l.written {
-        return false;
-    }
-    l.fixpoints <= 10
+    (1..=256).contains(&l.written) && l.fixpoints <= 10
 }
 
 pub fn desk() -> Limits

@@ -5,17 +5,17 @@ ghost use Rattle.std.specs.Prelude.{◌≡◌, ◌%◌};
 ghost use Rattle.listing.specs.Listing.{hex_digit, hex_line};
 
 // The last digit of a number in hexadecimal, capitals.
+// By a sum: `char::from_digit` answers a small letter, or none, and as a char.
+#[tactic(auto, unfolding(crate::specs::Listing::hex_digit))]
 fn digit(w: u32) -> u8
     ensures { result ≡ hex_digit (w % 16) }
 {
-    let d = w % 16;
-    if d < 10 {
-        return 48 + d as u8;
-    }
-    55 + d as u8
+    let d = (w % 16) as u8;
+    if d < 10 { b'0' + d } else { b'A' + (d - 10) }
 }
 
 // Eight digits and the line's end.
+// As bytes and not by a format: the contract names the nine bytes.
 pub fn line(w: u32) -> [u8; 9]
     ensures { result ≡ hex_line w }
 {
@@ -28,6 +28,6 @@ pub fn line(w: u32) -> [u8; 9]
         digit(w >> 8),
         digit(w >> 4),
         digit(w),
-        10,
+        b'\n',
     ]
 }

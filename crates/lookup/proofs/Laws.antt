@@ -12,6 +12,9 @@ use lib.Seq.{length-take-le, take-suc, take-length}
 use lib.Dec.{eqb}
 use borrow.Author.Tests.{eqb-true, eqb-false}
 use Rattle.logic.proofs.Numbers.{lt_or_le, get_or-zeros}
+use Rattle.std.specs.Prelude.{Option, Some, None}
+use Rattle.std.specs.Option.{is_some}
+use Rattle.table.specs.Answers.{OrNone}
 use Rattle.table.specs.Checks.{occurs}
 use Rattle.table.proofs.Accepted.{none_occurs, occurs_at}
 use Rattle.lookup.specs.Index.{hash_of, bucket_of, latest_after, latest, half_of, Indexed, Found}
@@ -81,9 +84,10 @@ indexed_none n p q =
       chain_at = λ k l. absurd (omega arith);
     }
 
--- what a search that found a word says
-pub found-occurs : {t : List ℕ} {w r : ℕ} → Found t w r → 0 < r → occurs w t ≡ true
-found-occurs {t} {w} {r} f p = occurs_at w t (r - 1) (omega (arith, (f.present p).0)) (f.present p).1
+-- a search finds a number where the word occurs
+pub found-occurs : (t : List ℕ) (w : ℕ) (r : Option ℕ) → OrNone (λ n. Found t w n) r → occurs w t ≡ is_some r
+found-occurs t w None f = f.absent refl
+found-occurs t w (Some n) f = occurs_at w t (n - 1) (omega (arith, f.0, (f.1.present f.0).0)) (f.1.present f.0).1
 
 -- a search along a chain stands at number n: each word past it is another than w
 pub record Trail (half : ℕ) (t : List ℕ) (w n : ℕ) : Type 0 where

@@ -3,20 +3,15 @@
 #![tactic(auto)]
 
 ghost use Rattle.std.specs.Prelude.{◌≡◌, ◌≤◌, ◌<◌, length, take};
+ghost use Rattle.table.specs.Answers.{OrNone};
 ghost use Rattle.lookup.specs.Index.{bucket_of, count_of, Indexed, Found};
-
-pub fn wide(x: u16) -> usize
-    ensures { result ≡ x }
-{
-    x as usize
-}
 
 // The hash of the word, a part of 2^32, as the same part of the buckets: one multiplication each, and no division.
 pub fn bucket(half: usize, w: u32) -> usize
     requires { (0 < half) × (half ≤ 16384) }
     ensures { (result ≡ bucket_of half w) × (result < half) }
 {
-    ((w as u64) * 3266489917 % 4294967296 * (half as u64) / 4294967296) as usize
+    (u64::from(w) * 3266489917 % 4294967296 * (half as u64) / 4294967296) as usize
 }
 
 // How many words are in the index.
@@ -24,22 +19,23 @@ pub fn count(index: &[u16]) -> usize
     requires { 0 < length index.now }
     ensures { result ≡ count_of index.now }
 {
-    wide(index[0])
+    usize::from(index[0])
 }
 
-// The number of a word among those in the index, or 0 where it is not among them.
-pub fn find(words: &[u32], index: &[u16], w: u32) -> usize
+// The number of a word, where it is among those in the index.
+pub fn find(words: &[u32], index: &[u16], w: u32) -> Option<usize>
     requires { (count_of index.now ≤ length words.now) × Indexed (take (count_of index.now) words.now) index.now }
-    ensures { Found (take (count_of index.now) words.now) w result }
+    ensures { OrNone (λ n. Found (take (count_of index.now) words.now) w n) result }
 {
     let half = index.len() / 2;
     let head = half + bucket(half, w);
-    let mut n = wide(index[head]);
+    let mut n = usize::from(index[head]);
+    // A chain is no range: each number on it names the next, to 0.
     while 0 < n {
         if words[n - 1] == w {
-            return n;
+            return Some(n);
         }
-        n = wide(index[n]);
+        n = usize::from(index[n]);
     }
-    0
+    None
 }

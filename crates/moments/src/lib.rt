@@ -4,24 +4,19 @@
 ghost use Rattle.std.specs.Prelude.{◌≡◌, cond, ℕ, ◌+◌, ◌-◌, ◌^◌, ◌≤◌, ◌<◌, ltb};
 ghost use Rattle.agreement.specs.Comparing as comparing;
 
-use row_words::row_word::ones;
-
 // The driven bits of a sample.
 pub fn driven_bits(driven: usize) -> u64
     requires { driven ≤ 32 }
     ensures { result ≡ 2 ^ driven - 1 }
 {
-    if driven == 0 {
-        return 0;
-    }
-    ones(driven)
+    (1u64 << driven) - 1
 }
 
 // Whether two samples have the same bits, of those that are asked for.
 pub fn alike(v: u32, w: u32, bits: u64) -> bool
     ensures { (k : ℕ) → bits ≡ 2 ^ k - 1 → result ≡ comparing.alike k v w }
 {
-    (v ^ w) as u64 & bits == 0
+    u64::from(v ^ w) & bits == 0
 }
 
 // The sample after one: the next, or after the last the one at the loop start.
@@ -39,8 +34,5 @@ pub fn window(samples: usize, start: usize, others: usize, other_start: usize) -
     ensures { result ≡ comparing.window samples start others other_start }
 {
     let loops = (samples - start) + (others - other_start);
-    if start < other_start {
-        return other_start + loops;
-    }
-    start + loops
+    start.max(other_start) + loops
 }

@@ -7,8 +7,7 @@ ghost use Rattle.move_answers.specs.Answered.{Given, Answered};
 
 use move_checks::check_asked;
 use move_placing::place;
-use refusals::{Outcome, Refusal};
-use table::answer::Answer;
+use refusals::Refusal;
 
 // The states are numbered; then 6, 22 and 21, or the move.
 pub fn answer(
@@ -19,15 +18,13 @@ pub fn answer(
     bytes: &mut [u8],
     starts: &mut [u16],
     res: &mut [u32],
-) -> Answer
+) -> Result<usize, Refusal>
     requires { Room words.now bytes.old starts.old }
     ensures { Answered words.now state sample driven res.old res.new result }
 {
     let total = state_numbers::fill(words, &mut *bytes, &mut *starts);
-    match check_asked(words, total, state, driven) {
-        Outcome::Refused(r) => Answer::Refused(r),
-        Outcome::Accepted => give(words, &*bytes, &*starts, total, state, sample, res),
-    }
+    check_asked(words, total, state, driven)?;
+    give(words, &*bytes, &*starts, total, state, sample, res)
 }
 
 // The move, or 12.
@@ -39,14 +36,15 @@ fn give(
     state: usize,
     sample: u32,
     res: &mut [u32],
-) -> Answer
+) -> Result<usize, Refusal>
     requires { Known words.now bytes.now starts.now total state }
     ensures { Given words.now state sample res.old res.new result }
 {
-    let n = place(words, bytes, starts, total, state, sample, &mut *res);
-    if n == 0 {
-        clearing::words(res);
-        return Answer::Refused(Refusal::ResultTooShort);
+    match place(words, bytes, starts, total, state, sample, &mut *res) {
+        Some(n) => Ok(n),
+        None => {
+            res.fill(0);
+            Err(Refusal::ResultTooShort)
+        }
     }
-    Answer::Made(n)
 }

@@ -27,9 +27,10 @@ use Rattle.automata.specs.Positive.{Positive, any_of, atom}
 use Rattle.automata_laws.specs.StateClass.{StateClass, sigma₁, pi₁, class_bit, in_class, within, is_smallest, smallest_in}
 use Rattle.automata_laws.specs.FormulaAutomaton.{State, is_proper, combination, moved_by, move_of}
 use Rattle.state_classes.specs.Kept.{word_of, offset}
-use Rattle.state_slots.specs.Slots.{three}
+use Rattle.std.specs.Bool.{then_some}
+use Rattle.state_slots.specs.Slots.{three, class_slots}
 use Rattle.state_slots.proofs.Standing.{Stands, Keeps, keeps_all, keeps-set, keeps-three, drafted-keeps, stored-stands, copied-stands, apart-drafted}
-use Rattle.state_slots.proofs.Classes.{classed}
+use Rattle.state_slots.proofs.Classes.{given_state, given_other, classed}
 use Rattle.word_states.specs.declared.Held.{Held}
 use Rattle.class_bits.specs.Levels.{second_class}
 use Rattle.word_states.specs.States.{shown, Moving}
@@ -39,7 +40,7 @@ use Rattle.sample_letters.specs.Constant.{constant_at}
 use Rattle.move_slots.specs.Slots.{constant_slots, over_slots, junction_slots, held_slots, state_slots, letter_slots}
 use Rattle.next_slots.specs.Slots.{next_slots}
 use Rattle.temporal_slots.specs.Slots.{lane, inner_slot, outer_slot, fixpoint_slots}
-use Rattle.move_draft.specs.Filling.{class_at, combined_by, move_by, Room, Moved, Filled, Next}
+use Rattle.move_draft.specs.Filling.{class_at, combined_by, move_by, Moved, Filled, Next}
 use Rattle.move_draft.proofs.Moves.{moved-proper, Junction, junction_at, Fixpoint}
 
 -- ---- three slots, by their places
@@ -163,50 +164,69 @@ module _ {v : ℕ} {upper : Bool} {t bytes starts d : List ℕ} {j k l r : ℕ} 
     byte : get_or bytes (j - 1) 0 ≡ class_byte (word_of t j)
     byte = byte_is q.room.kept j q.word.positive q.word.inside
 
-    sigma_is : h.sigma ≡ in_Σ₁ (word_of t j)
-    sigma_is = m.sigma ∙ ap (λ (n : ℕ). bit n 1) byte ∙ bit_of (word_of t j) sigma₁
+    abbrev in_sigma : Bool
+    in_sigma = in_Σ₁ (word_of t j)
 
-    pi_is : h.pi ≡ in_Π₁ (word_of t j)
-    pi_is = m.pi ∙ ap (λ (n : ℕ). bit n 2) byte ∙ bit_of (word_of t j) pi₁
+    abbrev in_pi : Bool
+    in_pi = in_Π₁ (word_of t j)
 
-    further_is : h.further ≡ in_class (second_class upper) (word_of t j)
-    further_is = m.further ∙ ap (λ (n : ℕ). bit n (class_bit (second_class upper))) byte ∙ bit_of (word_of t j) (second_class upper)
+    abbrev in_further : Bool
+    in_further = in_class (second_class upper) (word_of t j)
+
+    abbrev number : StateClass → ℕ
+    number Γ = get_or starts j 0 + offset Γ (get_or bytes (j - 1) 0)
+
+    sigma_is : h.sigma ≡ then_some in_sigma (number sigma₁)
+    sigma_is = m.sigma ∙ ap (λ b. then_some b (number sigma₁)) (ap (λ (n : ℕ). bit n 1) byte ∙ bit_of (word_of t j) sigma₁)
+
+    pi_is : h.pi ≡ then_some in_pi (number pi₁)
+    pi_is = m.pi ∙ ap (λ b. then_some b (number pi₁)) (ap (λ (n : ℕ). bit n 2) byte ∙ bit_of (word_of t j) pi₁)
+
+    further_is : h.further ≡ then_some in_further (number (second_class upper))
+    further_is = m.further ∙ ap (λ b. then_some b (number (second_class upper))) (ap (λ (n : ℕ). bit n (class_bit (second_class upper))) byte ∙ bit_of (word_of t j) (second_class upper))
+
+    held_are : (g : List ℕ) (i x y z : ℕ) → held_slots g i h x y z ≡ class_slots g i (then_some in_sigma x) (then_some in_pi y) (then_some in_further z)
+    held_are g i x y z = rw (sigma_is, pi_is, further_is, given_other in_sigma (number sigma₁) x, given_other in_pi (number pi₁) y, given_other in_further (number (second_class upper)) z)
+
+    states_are : state_slots d j h
+        ≡ class_slots d (7 * j) (then_some in_sigma (pack 3 0 (number sigma₁))) (then_some in_pi (pack 3 0 (number pi₁))) (then_some in_further (pack 3 0 (number (second_class upper))))
+    states_are = rw (sigma_is, pi_is, further_is, given_state in_sigma (number sigma₁), given_state in_pi (number pi₁), given_state in_further (number (second_class upper)))
 
     -- it is smallest in the classes that are told
-    sigma-least : h.sigma ≡ true → T (is_smallest (word_of t j) sigma₁)
-    sigma-least e = rw (sym sigma_is ∙ e) tt
+    sigma-least : in_sigma ≡ true → T (is_smallest (word_of t j) sigma₁)
+    sigma-least e = rw e tt
 
-    pi-least : h.pi ≡ true → T (is_smallest (word_of t j) pi₁)
-    pi-least e = rw (sym pi_is ∙ e) tt
+    pi-least : in_pi ≡ true → T (is_smallest (word_of t j) pi₁)
+    pi-least e = rw e tt
 
-    further-least : h.sigma ≡ false → h.pi ≡ false → h.further ≡ true → T (is_smallest (word_of t j) (second_class upper))
-    further-least a b c = go upper (sym further_is ∙ c)
+    further-least : in_sigma ≡ false → in_pi ≡ false → in_further ≡ true → T (is_smallest (word_of t j) (second_class upper))
+    further-least a b c = go upper c
       where
         go : (u : Bool) → in_class (second_class u) (word_of t j) ≡ true → T (is_smallest (word_of t j) (second_class u))
-        go true e = rw (e, sym sigma_is ∙ a, sym pi_is ∙ b) tt
-        go false e = rw (e, sym sigma_is ∙ a, sym pi_is ∙ b) tt
+        go true e = rw (e, a, b) tt
+        go false e = rw (e, a, b) tt
 
     module _ (proper : T (is_proper (word_of t j))) where
       -- what is made of its states, by the three classes
       made : (f : StateClass → Positive State) (e : List ℕ) (i x y z : ℕ) → i + 2 < length e
-          → (h.sigma ≡ true → Stands e i x (shown t (f sigma₁))) → (h.pi ≡ true → Stands e i y (shown t (f pi₁)))
-          → (h.sigma ≡ false → h.pi ≡ false → h.further ≡ true → Stands e i z (shown t (f (second_class upper))))
-          → (n : ℕ) → n < 3 → Drafted (held_slots e i h x y z) (shown t (any_of (map f (smallest_in (within (class_at upper n)) (word_of t j))))) (i + n)
+          → (in_sigma ≡ true → Stands e i x (shown t (f sigma₁))) → (in_pi ≡ true → Stands e i y (shown t (f pi₁)))
+          → (in_sigma ≡ false → in_pi ≡ false → in_further ≡ true → Stands e i z (shown t (f (second_class upper))))
+          → (n : ℕ) → n < 3 → Drafted (class_slots e i (then_some in_sigma x) (then_some in_pi y) (then_some in_further z)) (shown t (any_of (map f (smallest_in (within (class_at upper n)) (word_of t j))))) (i + n)
       made f e i x y z long a b c =
           let φ : Formula = word_of t j in
-          let k = classed e i h.sigma h.pi h.further x y z (shown t (f sigma₁)) (shown t (f pi₁)) (shown t (f (second_class upper))) long a b c in
-          lanes (held_slots e i h x y z) i (λ n. shown t (any_of (map f (smallest_in (within (class_at upper n)) φ)))) (
-            rw (sigma-shown t f φ, sym sigma_is) k.one,
-            rw (pi-shown t f φ, sym pi_is) k.two,
-            rw (second-shown t f φ upper, sym sigma_is, sym pi_is, sym further_is) k.three,
+          let k = classed e i in_sigma in_pi in_further x y z (shown t (f sigma₁)) (shown t (f pi₁)) (shown t (f (second_class upper))) long a b c in
+          lanes (class_slots e i (then_some in_sigma x) (then_some in_pi y) (then_some in_further z)) i (λ n. shown t (any_of (map f (smallest_in (within (class_at upper n)) φ)))) (
+            rw (sigma-shown t f φ) k.one,
+            rw (pi-shown t f φ) k.two,
+            rw (second-shown t f φ upper) k.three,
           )
 
       state : StateClass → Positive State
       state Γ = atom (record { formula = word_of t j; class = Γ })
 
-      stands : (n : ℕ) (Γ : StateClass) → n ≡ get_or starts j 0 + offset Γ (get_or bytes (j - 1) 0) → T (is_smallest (word_of t j) Γ) → Stands d (7 * j) (pack 3 0 n) (shown t (state Γ))
+      stands : (Γ : StateClass) → T (is_smallest (word_of t j) Γ) → Stands d (7 * j) (pack 3 0 (number Γ)) (shown t (state Γ))
       unfolding state
-      stands n Γ = state-stands q.room.kept j q.word.positive q.word.inside proper d (7 * j) n Γ
+      stands Γ = state-stands q.room.kept j q.word.positive q.word.inside proper d (7 * j) (number Γ) Γ refl
 
       -- the draft with the word's combinations
       abbrev e : List ℕ
@@ -218,23 +238,23 @@ module _ {v : ℕ} {upper : Bool} {t bytes starts d : List ℕ} {j k l r : ℕ} 
       combined : (n : ℕ) → n < 3 → Drafted e (combined_by t (class_at upper n) j) (7 * j + n)
       unfolding state
       combined n l =
-          rw (combined-proper (within (class_at upper n)) (word_of t j) proper)
-          (made state d (7 * j) (pack 3 0 h.first) (pack 3 0 h.second) (pack 3 0 h.third) (omega (arith, inside q))
-          (λ a. stands h.first sigma₁ m.first (sigma-least a))
-          (λ a. stands h.second pi₁ m.second (pi-least a))
-          (λ a b c. stands h.third (second_class upper) m.third (further-least a b c)) n l)
+          rw (combined-proper (within (class_at upper n)) (word_of t j) proper, states_are)
+          (made state d (7 * j) (pack 3 0 (number sigma₁)) (pack 3 0 (number pi₁)) (pack 3 0 (number (second_class upper))) (omega (arith, inside q))
+          (λ a. stands sigma₁ (sigma-least a))
+          (λ a. stands pi₁ (pi-least a))
+          (λ a b c. stands (second_class upper) (further-least a b c)) n l)
 
       -- and moved, by slots that stand for the moves of its states
       module _ (g : List ℕ) (x y z : ℕ) (kept : Keeps e g (7 * j + 3)) where
-        proper-filled : (h.sigma ≡ true → Stands g (7 * j + 4) x (shown t (move_of (word_of t j) sigma₁ v)))
-            → (h.pi ≡ true → Stands g (7 * j + 4) y (shown t (move_of (word_of t j) pi₁ v)))
-            → (h.sigma ≡ false → h.pi ≡ false → h.further ≡ true → Stands g (7 * j + 4) z (shown t (move_of (word_of t j) (second_class upper) v)))
+        proper-filled : (in_sigma ≡ true → Stands g (7 * j + 4) x (shown t (move_of (word_of t j) sigma₁ v)))
+            → (in_pi ≡ true → Stands g (7 * j + 4) y (shown t (move_of (word_of t j) pi₁ v)))
+            → (in_sigma ≡ false → in_pi ≡ false → in_further ≡ true → Stands g (7 * j + 4) z (shown t (move_of (word_of t j) (second_class upper) v)))
             → Filled v upper t (held_slots g (7 * j + 4) h x y z) j
         proper-filled a b c =
             let later = keeps-three (7 * j + 4) _ _ _ (omega arith) kept in
             finished q (record { long = later.long ∙ first.long; same = λ i l. later.same i (omega arith) ∙ first.same i l })
             (λ n l. drafted-keeps later (combined_by t (class_at upper n) j) (7 * j + n) (omega arith) (combined n l))
-            (λ n l. rw (moved-proper (class_at upper n) (word_of t j) (λ Δ. move_of (word_of t j) Δ v) proper)
+            (λ n l. rw (moved-proper (class_at upper n) (word_of t j) (λ Δ. move_of (word_of t j) Δ v) proper, held_are g (7 * j + 4) x y z)
             (made (λ Δ. move_of (word_of t j) Δ v) g (7 * j + 4) x y z (omega (arith, inside q, kept.long, first.long)) a b c n l))
 
     -- ---- letters
@@ -320,35 +340,22 @@ module _ {v : ℕ} {upper : Bool} {t bytes starts d : List ℕ} {j k l r : ℕ} 
           subst (λ (i : ℕ). Stands (with_inner i) (7 * j + 4) (outer_slot j i (binary_kind outer) r) (shown t (move_of (word_of t j) (class_at upper n) v))) (sym z) (move-stands n b least)
 
       -- it is not in both classes of the first level
-      not_sigma : h.pi ≡ true → h.sigma ≡ false
-      not_sigma e = go h.sigma refl
+      not_sigma : in_pi ≡ true → in_sigma ≡ false
+      not_sigma e = go in_sigma refl
         where
-          go : (b : Bool) → h.sigma ≡ b → b ≡ false
+          go : (b : Bool) → in_sigma ≡ b → b ≡ false
           go false z = refl
           go true z =
-              let s : T (in_Σ₁ (word_of t j)) = rw (sym sigma_is ∙ z) tt in
-              let p : T (in_Π₁ (word_of t j)) = rw (sym pi_is ∙ e) tt in
+              let s : T (in_Σ₁ (word_of t j)) = rw z tt in
+              let p : T (in_Π₁ (word_of t j)) = rw e tt in
               absurd (o.one (word_of t l) (word_of t r) (rw form at s) (rw form at p))
 
       pub fixpoint-filled : Filled v upper t (fixpoint_slots d j h (binary_kind inner) (binary_kind outer) l r) j
       fixpoint-filled =
           proper-filled is_proper_lem (with_inner (lane h)) _ _ _ (keeps-set (7 * j + 3) _ (omega arith) (keeps_all _ _))
-          (λ a. at_lane 0 (rw a) (omega arith) (sigma-least a))
-          (λ a. at_lane 1 (rw (not_sigma a, a)) (omega arith) (pi-least a))
-          (λ a b c. at_lane 2 (rw (a, b)) (omega arith) (further-least a b c))
-
--- before the first word
-pub none_filled : (v : ℕ) (upper : Bool) (t d : List ℕ) → Filled v upper t d 0
-none_filled v upper t d = record { word = λ j p h. absurd (omega arith) }
-
--- after j words comes the next one
-pub next_word : {v : ℕ} {upper : Bool} {t bytes starts d e : List ℕ} {j : ℕ} → Room t bytes starts d → length e ≡ length d → Filled v upper t e j → j < length t
-    → Next v upper t bytes starts e (j + 1)
-next_word q h f l = record {
-  room = record { accepted = q.accepted; kept = q.kept; slots = omega (arith, q.slots); few = omega (arith, q.few) };
-  word = record { plain = true; limit = 16383; accepted = q.accepted; positive = omega arith; inside = omega arith };
-  before = λ i p b. f.word i p (omega arith);
-}
+          (λ a. at_lane 0 (rw (sigma_is, a)) (omega arith) (sigma-least a))
+          (λ a. at_lane 1 (rw (sigma_is, pi_is, not_sigma a, a)) (omega arith) (pi-least a))
+          (λ a b c. at_lane 2 (rw (sigma_is, pi_is, a, b)) (omega arith) (further-least a b c))
 
 -- ---- the root of a state: its word moved by its class is the state's move
 

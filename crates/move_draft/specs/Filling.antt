@@ -1,7 +1,7 @@
 -- The draft of a move by the sample v: each word of the table combined by three classes, and moved by them.
 use Rattle.std.specs.Prelude.{ℕ, zero, suc, ◌+◌, ◌*◌, ◌<◌, ◌≤◌, ◌≡◌, Bool, true, List, length}
 use Rattle.logic.specs.Formula.{Formula}
-use Rattle.refusals.specs.declared.Outcome.TheVariants.{Accepted}
+use Rattle.std.specs.Prelude.{Ok}
 use Rattle.table.specs.Checks.{checked}
 use Rattle.automata_laws.specs.StateClass.{StateClass, sigma₁, pi₁, within}
 use Rattle.automata_laws.specs.FormulaAutomaton.{combination, move_of, moved_by}
@@ -26,7 +26,7 @@ move_by v t Γ j = shown t (moved_by Γ (word_of t j) (λ Δ. move_of (word_of t
 
 -- an accepted table, what is kept of it, and a draft with slots for its words
 pub record Room (t bytes starts d : List ℕ) : Type 0 where
-  pub accepted : checked true 16383 t ≡ Accepted
+  pub accepted : checked true 16383 t ≡ Ok tt
   pub kept : Kept t bytes starts
   pub slots : 7 * length t + 7 ≤ length d
   pub few : length d ≤ 1048576

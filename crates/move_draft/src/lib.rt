@@ -44,9 +44,7 @@ pub fn fill(
     requires { Room words.now bytes.now starts.now draft.old }
     ensures { Filled sample upper words.now draft.new (length words.now) }
 {
-    let mut j = 0;
-    while j < words.len() {
-        j += 1;
+    for j in 1..=words.len() {
         step_word(words, bytes, starts, sample, upper, &mut *draft, j);
     }
 }

@@ -5,6 +5,8 @@ use mathlib.Core.Path.{◌≡◌, refl, sym, subst}
 use mathlib.Core.List.{List}
 use lib.ListN.{length}
 use borrow.Author.Tests.{le-leb, lt-leb}
+use Rattle.std.specs.Prelude.{Option, None, Some}
+use Rattle.table.specs.Answers.{OrNone}
 use Rattle.automata_tables.specs.States.{state_words}
 use Rattle.state_numbers.specs.Numbered.{Numbered, Found}
 use Rattle.move_roots.specs.Roots.{Drawn}
@@ -27,14 +29,18 @@ module _ {t bytes starts : List ℕ} {total n : ℕ} (k : Known t bytes starts t
   }
 
   -- written to the slice: with so few states, it fits where its words do
-  pub placed-few : {v r : ℕ} {out e : List ℕ} → Moved t n v out e r → Placed t n v out e r
+  one_placed : {v : ℕ} {out e : List ℕ} (r : ℕ) → Moved t n v out e r → Placed t n v out e r
   unfolding move_fits
-  placed-few q =
+  one_placed r q =
       let c = le-leb (length (state_words t)) 16383 (omega (arith, k.filled.all)) in
       record { unfit = λ z. rw c (q.written.unfit z); fit = λ z. let f = q.written.fit z in (rw c f.fitting, f.long, f.words) }
 
-  pub start_placed : {v r : ℕ} {out e : List ℕ} → n ≡ 0 → Moved t 0 v out e r → Placed t n v out e r
-  start_placed {v} {r} {out} {e} z q = placed-few (subst (λ (m : ℕ). Moved t m v out e r) (sym z) q)
+  pub placed-few : (v : ℕ) (out e : List ℕ) (r : Option ℕ) → OrNone (λ r. Moved t n v out e r) r → OrNone (λ r. Placed t n v out e r) r
+  placed-few v out e None q = one_placed 0 q
+  placed-few v out e (Some r) q = (q.0, one_placed r q.1)
+
+  pub start_placed : (v : ℕ) (out e : List ℕ) (r : Option ℕ) → n ≡ 0 → OrNone (λ r. Moved t 0 v out e r) r → OrNone (λ r. Placed t n v out e r) r
+  start_placed v out e r z q = placed-few v out e r (subst (λ (m : ℕ). OrNone (λ r. Moved t m v out e r) r) (sym z) q)
 
 -- more states than a table may have words
 pub placed-many : {t bytes starts : List ℕ} {total n v : ℕ} {out : List ℕ} → Known t bytes starts total n → 16383 < total → Placed t n v out out 0

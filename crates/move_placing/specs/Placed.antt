@@ -1,6 +1,6 @@
 -- What becomes of a slice to which the move of a state, or the start, is placed, once the table t has passed its checks.
 use Rattle.std.specs.Prelude.{ℕ, ◌≤◌, ◌≡◌, Bool, true, false, ◌&&◌, List, ◌++◌, length, drop, leb}
-use Rattle.refusals.specs.declared.Outcome.TheVariants as outcome
+use Rattle.std.specs.Prelude.{Ok, Err}
 use Rattle.table.specs.Checks.{checked}
 use Rattle.table.specs.Numbering.{fits}
 use Rattle.automata_tables.specs.States.{state_words}
@@ -18,6 +18,6 @@ pub record Placed (t : List ℕ) (n v : ℕ) (out e : List ℕ) (r : ℕ) : Type
 
 -- an accepted table, what is kept of it, and a state of it
 pub record Known (t bytes starts : List ℕ) (total n : ℕ) : Type 0 where
-  pub accepted : checked true 16383 t ≡ outcome.Accepted
+  pub accepted : checked true 16383 t ≡ Ok tt
   pub filled : Filled t bytes starts total
   pub inside : n ≤ total

@@ -1,11 +1,12 @@
 // The move of a state of accepted words, or the start, from the number of the state, written to the front of a slice.
 #![tactic(auto)]
 
+ghost use Rattle.table.specs.Answers.{OrNone};
 ghost use Rattle.move_placing.specs.Placed.{Placed, Known};
 
 use move_writing::write;
 
-// The move at the front of the result, and its length; 0 where it does not fit, or where there are too many states.
+// The move at the front of the result, and its length, where it fits and there are not too many states.
 pub fn place(
     words: &[u32],
     bytes: &[u8],
@@ -14,12 +15,12 @@ pub fn place(
     state: usize,
     sample: u32,
     res: &mut [u32],
-) -> usize
+) -> Option<usize>
     requires { Known words.now bytes.now starts.now total state }
-    ensures { Placed words.now state sample res.old res.new result }
+    ensures { OrNone (λ n. Placed words.now state sample res.old res.new n) result }
 {
     if total > 16383 {
-        return 0;
+        return None;
     }
     if state == 0 {
         return write(words, bytes, starts, sample, 0, 0, 0, res);

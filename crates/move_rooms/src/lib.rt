@@ -1,10 +1,14 @@
 // A draft of the size that the table can need, filled and numbered: short tables pay for no more.
 #![tactic(auto)]
 
+ghost use Rattle.std.specs.Prelude.{◌/◌, ◌<◌, ◌≤◌};
+ghost use Rattle.table.specs.Answers.{OrNone};
+ghost use Rattle.table.specs.Numbering.{room};
 ghost use Rattle.move_roots.specs.Roots.{Drawn};
 ghost use Rattle.move_rooms.specs.Rooms.{Asked, Moved};
 
-pub fn of_64(
+// A draft of `DRAFT` slots, numbered in a room of `SLOTS` slots and an index of `INDEX` numbers.
+pub fn of<const DRAFT: usize, const SLOTS: usize, const INDEX: usize>(
     words: &[u32],
     bytes: &[u8],
     starts: &[u16],
@@ -13,69 +17,13 @@ pub fn of_64(
     word: usize,
     class: usize,
     res: &mut [u32],
-) -> usize
+) -> Option<usize>
     requires drawn { Drawn words.now bytes.now starts.now state word class }
-    requires asked { Asked 64 words.now res.old }
-    ensures { Moved words.now state sample res.old res.new result }
+    requires asked { Asked DRAFT words.now res.old }
+    requires room { (DRAFT ≤ SLOTS) × (SLOTS ≤ 1048576) × (room SLOTS < INDEX / 2) × (INDEX ≤ 32768) }
+    ensures { OrNone (λ n. Moved words.now state sample res.old res.new n) result }
 {
-    let mut draft = [0u64; 455];
+    let mut draft = [0u64; DRAFT];
     let root = move_roots::fill(words, bytes, starts, sample, state, word, class, &mut draft);
-    number_rooms::of_514(&draft, root, res)
-}
-
-pub fn of_512(
-    words: &[u32],
-    bytes: &[u8],
-    starts: &[u16],
-    sample: u32,
-    state: usize,
-    word: usize,
-    class: usize,
-    res: &mut [u32],
-) -> usize
-    requires drawn { Drawn words.now bytes.now starts.now state word class }
-    requires asked { Asked 512 words.now res.old }
-    ensures { Moved words.now state sample res.old res.new result }
-{
-    let mut draft = [0u64; 3591];
-    let root = move_roots::fill(words, bytes, starts, sample, state, word, class, &mut draft);
-    long_number_rooms::of_3591(&draft, root, res)
-}
-
-pub fn of_4096(
-    words: &[u32],
-    bytes: &[u8],
-    starts: &[u16],
-    sample: u32,
-    state: usize,
-    word: usize,
-    class: usize,
-    res: &mut [u32],
-) -> usize
-    requires drawn { Drawn words.now bytes.now starts.now state word class }
-    requires asked { Asked 4096 words.now res.old }
-    ensures { Moved words.now state sample res.old res.new result }
-{
-    let mut draft = [0u64; 28679];
-    let root = move_roots::fill(words, bytes, starts, sample, state, word, class, &mut draft);
-    long_number_rooms::of_32768(&draft, root, res)
-}
-
-pub fn of_16383(
-    words: &[u32],
-    bytes: &[u8],
-    starts: &[u16],
-    sample: u32,
-    state: usize,
-    word: usize,
-    class: usize,
-    res: &mut [u32],
-) -> usize
-    requires drawn { Drawn words.now bytes.now starts.now state word class }
-    requires asked { Asked 16383 words.now res.old }
-    ensures { Moved words.now state sample res.old res.new result }
-{
-    let mut draft = [0u64; 114688];
-    let root = move_roots::fill(words, bytes, starts, sample, state, word, class, &mut draft);
-    long_number_rooms::of_114688(&draft, root, res)
+    number_rooms::number::<SLOTS, INDEX>(&draft, root, res)
 }

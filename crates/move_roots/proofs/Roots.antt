@@ -8,7 +8,7 @@ use lib.ListN.{length}
 use lib.Dec.{T, eqb}
 use Rattle.logic.specs.Formula.{Formula}
 use Rattle.logic.specs.Letters.{Letters}
-use Rattle.refusals.specs.declared.Outcome.TheVariants.{Accepted}
+use Rattle.std.specs.Prelude.{Ok}
 use Rattle.table.specs.Checks.{checked}
 use Rattle.table.specs.Table.{formulas, rule}
 use Rattle.table.proofs.Accepted.{accepted-well-formed}
@@ -43,7 +43,7 @@ written_small {t} k zero v = shown_small k (combination every (rule t))
 written_small {t} k (suc n) v = shown_small k (let q : State = state_at (states t) (suc n) in move_of q.formula q.class v)
 
 -- the start
-pub start_drafted : (t d : List ℕ) (v : ℕ) → checked true 16383 t ≡ Accepted → starts.Filled t d (length t) → Drafted d (as_formula (written_at t 0 v)) (3 * length t + 2)
+pub start_drafted : (t d : List ℕ) (v : ℕ) → checked true 16383 t ≡ Ok tt → starts.Filled t d (length t) → Drafted d (as_formula (written_at t 0 v)) (3 * length t + 2)
 unfolding start_of rule
 start_drafted t d v ok f = f.word (length t) (accepted-well-formed true 16383 t ok).some (omega arith)
 

@@ -1,6 +1,6 @@
 -- What the start or the move of a state is drafted with, and where it stands.
 use Rattle.std.specs.Prelude.{ℕ, ◌+◌, ◌*◌, ◌≤◌, ◌<◌, ◌≡◌, true, cond, List, length, eqb}
-use Rattle.refusals.specs.declared.Outcome.TheVariants.{Accepted}
+use Rattle.std.specs.Prelude.{Ok}
 use Rattle.table.specs.Checks.{checked}
 use Rattle.automata_laws.specs.StateClass.{StateClass, class_bit}
 use Rattle.automata_tables.specs.States.{state_words, states, state_at}
@@ -17,7 +17,7 @@ pub record Named (t : List ℕ) (n w bit : ℕ) : Type 0 where
 
 -- an accepted table, what is kept of it, and the word and the class of the state, where it is not the start, which is 0
 pub record Drawn (t bytes starts : List ℕ) (n w bit : ℕ) : Type 0 where
-  pub accepted : checked true 16383 t ≡ Accepted
+  pub accepted : checked true 16383 t ≡ Ok tt
   pub kept : Kept t bytes starts
   pub named : 0 < n → Named t n w bit
 

@@ -1,8 +1,9 @@
 -- The seven slots of word j: 7j to 7j + 2, the word's combination by Sigma-1, Pi-1 and a class of the second level; 7j + 3, the inner word that the moves of U, W, R
 -- and M need; 7j + 4 to 7j + 6, the word moved by those classes.
-use Rattle.std.specs.Prelude.{ℕ, ◌+◌, ◌*◌, List}
+use Rattle.std.specs.Prelude.{ℕ, ◌+◌, ◌*◌, List, Some}
+use Rattle.std.specs.Option.{option_and}
 use Rattle.slots.specs.Slot.{pack}
-use Rattle.state_slots.specs.Slots.{three, class_slots}
+use Rattle.state_slots.specs.Slots.{three, state_slot, class_slots}
 use Rattle.word_states.specs.declared.Held.{Held}
 
 -- a constant
@@ -19,11 +20,11 @@ junction_slots d j k l r = over_slots (over_slots d (7 * j) k (7 * l) (7 * r)) (
 
 -- the slots of a word's classes from i on
 abbrev pub held_slots : List ℕ → (i : ℕ) → Held → (x y z : ℕ) → List ℕ
-held_slots d i h x y z = class_slots d i h.sigma h.pi h.further x y z
+held_slots d i h x y z = class_slots d i (option_and h.sigma (Some x)) (option_and h.pi (Some y)) (option_and h.further (Some z))
 
 -- the states of a word
 abbrev pub state_slots : List ℕ → ℕ → Held → List ℕ
-state_slots d j h = held_slots d (7 * j) h (pack 3 0 h.first) (pack 3 0 h.second) (pack 3 0 h.third)
+state_slots d j h = class_slots d (7 * j) (state_slot h.sigma) (state_slot h.pi) (state_slot h.further)
 
 -- a letter, which moves to the constant c
 abbrev pub letter_slots : List ℕ → ℕ → Held → ℕ → List ℕ

@@ -8,6 +8,7 @@ ghost use Rattle.word_states.specs.States.{Small};
 ghost use Rattle.move_slots.specs.Slots as moves;
 
 use slots::slot;
+use state_slots::of_state;
 use word_states::Held;
 
 pub fn constant(draft: &mut [u64], j: usize, kind: u32)
@@ -44,7 +45,13 @@ pub fn by_class(draft: &mut [u64], i: usize, h: Held, x: u64, y: u64, z: u64)
     requires { (i + 2 < length draft.old) × (i + 1 < 1048576) }
     ensures { draft.new ≡ moves.held_slots draft.old i h x y z }
 {
-    state_slots::put(draft, i, h.sigma, h.pi, h.further, x, y, z)
+    state_slots::put(
+        draft,
+        i,
+        h.sigma.and(Some(x)),
+        h.pi.and(Some(y)),
+        h.further.and(Some(z)),
+    )
 }
 
 // The states of a word.
@@ -52,10 +59,10 @@ pub fn states(draft: &mut [u64], j: usize, h: Held)
     requires { (7 * j + 6 < length draft.old) × (j < 16384) × Small h }
     ensures { draft.new ≡ moves.state_slots draft.old j h }
 {
-    let x = slot::pack(3, 0, h.first);
-    let y = slot::pack(3, 0, h.second);
-    let z = slot::pack(3, 0, h.third);
-    by_class(draft, 7 * j, h, x, y, z)
+    let x = of_state(h.sigma);
+    let y = of_state(h.pi);
+    let z = of_state(h.further);
+    state_slots::put(draft, 7 * j, x, y, z)
 }
 
 // A letter, which moves to a constant.

@@ -5,9 +5,8 @@ use mathlib.Core.Bool.{true, false}
 use mathlib.Core.List.{List}
 use Rattle.refusals.specs.declared.Refusal.{Refusal}
 use Rattle.refusals.specs.declared.Refusal.TheVariants.{LimitsOutside}
-use Rattle.refusals.specs.declared.Outcome.TheVariants as outcome
-use Rattle.table.specs.declared.answer.Answer.{Answer}
-use Rattle.table.specs.declared.answer.Answer.TheVariants.{Refused}
+use Rattle.std.specs.Prelude.{Ok, Err}
+use Rattle.table.specs.Answers.{Answer}
 use Rattle.table.specs.declared.settings.Limits.{Limits}
 use Rattle.table.specs.Frame.{plain_step}
 use Rattle.table.proofs.Frame.{plain-early}
@@ -23,16 +22,16 @@ use Rattle.headed_answers.proofs.Ends.{given_ends}
 use Rattle.plain_answers.specs.Formable.{Formable}
 
 module _ (l : Limits) (t result : List ℕ) where
-  pub outside : is_permitted l ≡ false → Ends (plain_step l) t result (Refused LimitsOutside) result
+  pub outside : is_permitted l ≡ false → Ends (plain_step l) t result (Err LimitsOutside) result
   outside h = ends-refused (plain_step l) t result (plain-early l) LimitsOutside (outside-checks l _ h)
 
   module _ (p : is_permitted l ≡ true) where
-    pub refused : (r : Refusal) → headed_checked false l.written t ≡ outcome.Refused r → Ends (plain_step l) t result (Refused r) result
+    pub refused : (r : Refusal) → headed_checked false l.written t ≡ Err r → Ends (plain_step l) t result (Err r) result
     unfolding headed_checked
     refused r e = ends-refused (plain_step l) t result (plain-early l) r (permitted-checks l (headed_checks false l.written t) p ∙ e)
 
     -- the words of an accepted table have a plain form
-    module _ (ok : headed_checked false l.written t ≡ outcome.Accepted) where
+    module _ (ok : headed_checked false l.written t ≡ Ok tt) where
       pub formable : Formable (body t)
       formable = record { limit = l.written; accepted = (accepted-headed false l.written t ok).words; small = (permitted l p).written }
 

@@ -5,26 +5,22 @@
 ghost use Rattle.std.specs.Prelude.{◌≡◌, length};
 ghost use Rattle.table.specs.Frame.{normal_step, result_of, form_of};
 
-use refusals::{Outcome, Refusal};
+use refusals::Refusal;
 use rewritten_form::rewrite;
 use table::answer::Form;
 use table::settings::Limits;
 
 // Where the form stands, and how long it is.
-pub fn form(limits: Limits, table: &[u32], res: &mut [u32]) -> Form
+pub fn form(limits: Limits, table: &[u32], res: &mut [u32]) -> Result<Form, Refusal>
     ensures value { result ≡ form_of limits table.now (length res.old) }
     ensures res_after { res.new ≡ result_of (normal_step limits) table.now res.old }
 {
     if !limits::permitted(limits) {
-        return Form::Refused(Refusal::LimitsOutside);
+        return Err(Refusal::LimitsOutside);
     }
-    match heading::check(table, true, 2 * limits.written + 2) {
-        Outcome::Refused(r) => Form::Refused(r),
-        Outcome::Accepted => {
-            if headers::is_normal(table[0]) {
-                return Form::Source(table.len());
-            }
-            rewrite(limits, &table[1..], res)
-        }
+    heading::check(table, true, 2 * limits.written + 2)?;
+    if headers::is_normal(table[0]) {
+        return Ok(Form::Source(table.len()));
     }
+    rewrite(limits, &table[1..], res)
 }

@@ -14,7 +14,7 @@ use Rattle.logic.specs.Semantics.{Holds}
 use Rattle.logic.specs.Hierarchy.{Δ₂}
 use Rattle.transforms.specs.NormalForm.{normal_form}
 use Rattle.transforms.specs.Folding.{fold}
-use Rattle.refusals.specs.declared.Outcome.TheVariants.{Accepted}
+use Rattle.std.specs.Prelude.{Ok}
 use Rattle.table.specs.Table.{rule}
 use Rattle.table.specs.Checks.{checked}
 use Rattle.table.specs.Steps.{fixpoints, normal_table}
@@ -29,7 +29,7 @@ use Rattle.normal_laws.proofs.LettersKept.{normal_form-letters}
 use Rattle.normal_laws.proofs.Subformulas.{rule-plain, fixpoints-number}
 use Rattle.normal_laws.proofs.LengthBound.{normal_table-length}
 
-module _ (limit : ℕ) (t : List ℕ) (ok : checked true limit t ≡ Accepted) (small : limit ≤ 16383) where
+module _ (limit : ℕ) (t : List ℕ) (ok : checked true limit t ≡ Ok tt) (small : limit ≤ 16383) where
   formed : WellFormed true limit t
   formed = accepted-well-formed true limit t ok
 
@@ -69,6 +69,6 @@ module _ (limit : ℕ) (t : List ℕ) (ok : checked true limit t ≡ Accepted) (
     normal-letters Q l = subst (Letters Q) (sym rule-normal_table) (folded_letters Q l)
 
     -- its table passes the checks 1 to 10 of the judge
-    pub normal-accepted : checked false 16383 (normal_table t) ≡ Accepted
+    pub normal-accepted : checked false 16383 (normal_table t) ≡ Ok tt
     unfolding normal_table
     normal-accepted = accepted-written 16383 (fold (normal_form (fixpoints t) (rule t))) (folded_letters (λ p. (0 < p) × (p ≤ 32)) (rule-plain small formed).1) short (omega arith)

@@ -5,6 +5,8 @@ use mathlib.Core.Path.{◌≡◌, sym, ◌∙◌}
 use mathlib.Core.List.{List}
 use lib.ListN.{length, replicate, length-replicate}
 use Rattle.logic.proofs.Numbers.{get_or-zeros}
+use Rattle.std.specs.Prelude.{Option, None, Some}
+use Rattle.table.specs.Answers.{OrNone}
 use Rattle.table.specs.Numbering.{room}
 use Rattle.placing.specs.State.{State, state, written, Numbered}
 use Rattle.placing.proofs.Written.{written_all}
@@ -29,5 +31,11 @@ pub numberable : (n m : ℕ) {d out : List ℕ} {root : ℕ} → Asked n d root 
 numberable n m {d} {out} q few places most =
     fresh-numberable {d = replicate n 0} q.formula (omega (arith, zeros_long n)) (omega (arith, zeros_long n, q.long)) q.drafted (fresh n m out (omega (arith, q.lent)) most)
 
-pub all_written : (m : ℕ) {d out numbers : List ℕ} {root r : ℕ} {e : State} → Rooted d root (state out (replicate m 0)) e numbers r → Made d root out e.out r
-all_written m q = record { written = λ φ drafted small. written_all φ small (q.placed φ drafted) (get_or-zeros m 0) }
+-- what is made of a number, or of none
+module _ (m : ℕ) (d : List ℕ) (root : ℕ) (out numbers : List ℕ) (e : State) where
+  made : (r : ℕ) → Rooted d root (state out (replicate m 0)) e numbers r → Made d root out e.out r
+  made r q = record { written = λ φ drafted small. written_all φ small (q.placed φ drafted) (get_or-zeros m 0) }
+
+  pub all_written : (r : Option ℕ) → OrNone (λ n. Rooted d root (state out (replicate m 0)) e numbers n) r → OrNone (λ n. Made d root out e.out n) r
+  all_written None q = made 0 q
+  all_written (Some n) q = (q.0, made n q.1)

@@ -11,7 +11,7 @@ use Rattle.logic.specs.Formula.{Formula, Unary, Binary, const, lit, un, bin, nex
 use Rattle.logic.specs.NegationNormalForm.{is_plain, plain_unary, plain_binary}
 use Rattle.logic.proofs.Tests.{T_and}
 use Rattle.table.specs.Node.{Shape, constant, letter, unary, binary, pack, shape, left_field, right_field, unary_kind, binary_kind}
-use Rattle.refusals.specs.declared.Outcome.TheVariants.{Accepted}
+use Rattle.std.specs.Prelude.{Ok}
 use Rattle.table.specs.Checks.{is_blank, is_operand, is_proposition, occurs, checked}
 use Rattle.table.specs.Numbering.{table_of}
 use Rattle.table.proofs.Fields.{kind-pack, left_pack, right_pack}
@@ -110,7 +110,7 @@ plain_small (un o a) h = plain_small a h
 plain_small (bin o a b) h = (plain_small a h.0, plain_small b h.1)
 
 -- the letters of an accepted table fit the fields of its words
-pub rule_small : (b : Bool) (limit : ℕ) (t : List ℕ) → checked b limit t ≡ Accepted → Letters (λ p. p < 16384) (rule t)
+pub rule_small : (b : Bool) (limit : ℕ) (t : List ℕ) → checked b limit t ≡ Ok tt → Letters (λ p. p < 16384) (rule t)
 unfolding rule
 rule_small b limit t ok =
     let f = accepted-well-formed b limit t ok in
@@ -142,7 +142,7 @@ module _ (b : Bool) (t : List ℕ) (d : Distinct t) (k : length t < 16384) where
       rw m.6 (made_word b (take i t) (suc i) (binary_kind o) m.0 m.1 (binary o) (shape-binary o) (omega (arith, gl.1)) (omega (arith, gr.1)) q.0 (λ e. q.1 ((T_and (plain_binary o) (is_plain a)).0 (plain-bin o a c (p.0 e)).0).0)
       no no (λ e. (gl.0, omega (arith, m.4))) (λ e. (gr.0, omega (arith, m.5))) no (rw m.6 at (distinct-absent t d i h)))
 
-accepted-formed : (b : Bool) (limit : ℕ) (φ : Formula) → Formed b φ → length (table_of φ) ≤ limit → limit ≤ 16383 → checked b limit (table_of φ) ≡ Accepted
+accepted-formed : (b : Bool) (limit : ℕ) (φ : Formula) → Formed b φ → length (table_of φ) ≤ limit → limit ≤ 16383 → checked b limit (table_of φ) ≡ Ok tt
 accepted-formed b limit φ p h k =
     let t : List ℕ = table_of φ in
     let short : length t < 16384 = omega arith in
@@ -154,9 +154,9 @@ accepted-formed b limit φ p h k =
     })
 
 -- the table of a plain formula is accepted, also where only plain tables are taken
-pub accepted-table_of : (b : Bool) (limit : ℕ) (φ : Formula) → Plain φ → length (table_of φ) ≤ limit → limit ≤ 16383 → checked b limit (table_of φ) ≡ Accepted
+pub accepted-table_of : (b : Bool) (limit : ℕ) (φ : Formula) → Plain φ → length (table_of φ) ≤ limit → limit ≤ 16383 → checked b limit (table_of φ) ≡ Ok tt
 accepted-table_of b limit φ p = accepted-formed b limit φ (λ e. p.0, p.1)
 
 -- that of any formula where all kinds are taken
-pub accepted-written : (limit : ℕ) (φ : Formula) → Letters (λ p. (0 < p) × (p ≤ 32)) φ → length (table_of φ) ≤ limit → limit ≤ 16383 → checked false limit (table_of φ) ≡ Accepted
+pub accepted-written : (limit : ℕ) (φ : Formula) → Letters (λ p. (0 < p) × (p ≤ 32)) φ → length (table_of φ) ≤ limit → limit ≤ 16383 → checked false limit (table_of φ) ≡ Ok tt
 accepted-written limit φ p = accepted-formed false limit φ (λ e. absurd (false≢true e), p)

@@ -9,7 +9,7 @@ use lib.ListN.{length, get_or}
 use Rattle.logic.specs.Letters.{Letters}
 use Rattle.logic.specs.Driven.{Driven}
 use Rattle.transforms.proofs.Letters.{letters-sub}
-use Rattle.refusals.specs.declared.Outcome.TheVariants.{Accepted}
+use Rattle.std.specs.Prelude.{Ok}
 use Rattle.refusals.specs.Refusals.{first}
 use Rattle.table.specs.Node.{kind, right, shape}
 use Rattle.table.specs.Table.{formula_of, rule}
@@ -26,6 +26,6 @@ module _ {plain_only : Bool} {limit : ℕ} {t : List ℕ} (f : WellFormed plain_
       (letter_by (Driven k) (shape (kind (get_or t i 0))) (right (get_or t i 0)) _ _ e
       (subst (Letters (Driven k)) (accepted-formula f i h) (letters-sub (Driven k) (word-sub f (suc i) (omega arith) h) l))).1
 
-  pub driven-exactly : (first (letter_checks k 1 t) ≡ Accepted) ↔ Letters (Driven k) (rule t)
+  pub driven-exactly : (first (letter_checks k 1 t) ≡ Ok tt) ↔ Letters (Driven k) (rule t)
   unfolding rule
   driven-exactly = (λ e. formulas-driven f k e (length t) (omega arith), λ l. driven-words k 1 t (rule-driven l))

@@ -40,11 +40,9 @@ pub fn write_word(
         Operator::Letter(positive) => write_letter(row, samples, letter as u32, positive),
         Operator::Each(_) => write_connective(row, Connective::Left, a, a, positions),
         Operator::Next => write_next(row, a, positions, start),
-        Operator::Fixpoint {
-            goal: _,
-            keep: _,
-            greatest,
-        } => write_fixpoint(row, a, b, greatest, positions, start),
+        Operator::Fixpoint { greatest, .. } => write_fixpoint(
+            row, a, b, greatest, positions, start,
+        ),
     }
 }
 
@@ -114,14 +112,11 @@ pub fn prepare(
         → Prepared op positions f g a.new b.new }
 {
     match op {
-        Operator::Constant(_) => {}
-        Operator::Letter(_) => {}
+        Operator::Constant(_) | Operator::Letter(_) => {}
         Operator::Each(connective) => load(scratch, connective, left, right, positions, a),
         Operator::Next => load(scratch, Connective::Right, left, right, positions, a),
-        Operator::Fixpoint {
-            goal,
-            keep,
-            greatest: _,
-        } => load_both(scratch, goal, keep, left, right, positions, a, b),
+        Operator::Fixpoint { goal, keep, .. } => load_both(
+            scratch, goal, keep, left, right, positions, a, b,
+        ),
     }
 }

@@ -4,21 +4,17 @@
 ghost use Rattle.std.specs.Prelude.{◌≡◌};
 ghost use Rattle.refusals.specs.Refusals.{outcome_number, outcome_place};
 
-use refusals::Outcome;
+use refusals::{Refusal, Report};
+use reports::report_of;
 
-pub fn reply(o: Outcome, place: &mut usize) -> u32
+pub fn reply(o: Result<(), Refusal>, place: &mut usize) -> u32
     ensures value { result ≡ outcome_number o }
     ensures place_after { place.new ≡ outcome_place o }
 {
-    match o {
-        Outcome::Accepted => {
-            *place = 0;
-            0
-        }
-        Outcome::Refused(r) => {
-            let told = reports::report_of(r);
-            *place = told.1;
-            told.0
-        }
-    }
+    let Report(number, at) = match o {
+        Ok(()) => Report(0, 0),
+        Err(why) => report_of(why),
+    };
+    *place = at;
+    number
 }

@@ -1,5 +1,5 @@
 -- A text, the room to read it in, and what was read.
-use Rattle.std.specs.Prelude.{ℕ, ◌≤◌, ◌<◌, ◌≡◌, List, length}
+use Rattle.std.specs.Prelude.{ℕ, ◌≤◌, ◌<◌, ◌≡◌, List, length, Result, Ok, Err}
 use Rattle.std.proofs.Math.Option.{none, some}
 use Rattle.logic.specs.Formula.{Formula}
 use Rattle.table.specs.Numbering.{table_of}
@@ -23,3 +23,8 @@ pub record Parsed (text : List ℕ) (s : draft.State) (r : ℕ) : Type 0 where
   pub numbered : draft.Numbered s
   pub departs : 0 < r → (reading_of text ≡ none) × (r ≡ departure_of text)
   pub reads : r ≡ 0 → (φ : Formula) × (reading_of text ≡ some φ) × (draft.written s ≡ table_of φ)
+
+-- what is said of the place that an Err is, 0 where there is none
+abbrev pub OkOrPlace : (ℕ → Type 0) → Result (Unit {0}) ℕ → Type 0
+OkOrPlace P (Ok u) = P 0
+OkOrPlace P (Err n) = (0 < n) × P n

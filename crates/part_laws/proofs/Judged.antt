@@ -11,7 +11,7 @@ use Rattle.logic.specs.Formula.{Formula, const}
 use Rattle.logic.specs.Lasso.{place, word, lasso_of}
 use Rattle.logic.specs.Semantics.{Holds}
 use Rattle.logic.proofs.Lasso.Period.{place_below}
-use Rattle.refusals.specs.declared.Outcome.TheVariants.{Accepted}
+use Rattle.std.specs.Prelude.{Ok}
 use Rattle.tally.specs.declared.Desk.{Desk}
 use Rattle.table.specs.Table.{formulas, formula_of}
 use Rattle.table.specs.Checks.{checked}
@@ -32,7 +32,7 @@ unfolding formula_of
 by_number φs zero p = absurd (omega arith)
 by_number φs (suc j) p = refl
 
-module _ (limit : ℕ) (t : List ℕ) (ok : checked true limit t ≡ Accepted) (small : limit ≤ 16383) (samples : List ℕ) (start driven : ℕ) where
+module _ (limit : ℕ) (t : List ℕ) (ok : checked true limit t ≡ Ok tt) (small : limit ≤ 16383) (samples : List ℕ) (start driven : ℕ) where
   -- rows that say of every word at which positions it holds
   rows : (after : List ℕ) → 1 ≤ length samples
       → ((j : ℕ) → j < length (unfolded_table t) → (i : ℕ)
@@ -57,14 +57,14 @@ module _ (limit : ℕ) (t : List ℕ) (ok : checked true limit t ≡ Accepted) (
 
   module _ (scratch : List ℕ) where
     -- the row call
-    pub row_told : row_outcome (headed (unfolded_table t)) samples start driven scratch ≡ Accepted
+    pub row_told : row_outcome (headed (unfolded_table t)) samples start driven scratch ≡ Ok tt
         → PartRows t samples start driven (scratch_after (row_outcome (headed (unfolded_table t)) samples start driven scratch) (headed (unfolded_table t)) samples start driven scratch)
     row_told e =
         rows _ (accepted-facts (headed (unfolded_table t)) samples start driven scratch e).some
         (row_promise (headed (unfolded_table t)) samples start driven scratch e)
 
     -- the judge
-    pub judge_told : (desk : Desk) → judge_outcome (headed (unfolded_table t)) samples start driven scratch desk ≡ Accepted
+    pub judge_told : (desk : Desk) → judge_outcome (headed (unfolded_table t)) samples start driven scratch desk ≡ Ok tt
         → PartRows t samples start driven (scratch_after (judge_outcome (headed (unfolded_table t)) samples start driven scratch desk) (headed (unfolded_table t)) samples start driven scratch)
     judge_told desk e =
         rows _ (accepted-facts (headed (unfolded_table t)) samples start driven scratch (judge_rows (headed (unfolded_table t)) samples start driven scratch desk e)).some

@@ -22,7 +22,7 @@ use Rattle.transforms.proofs.Letters.{letters-sub}
 use Rattle.transforms.proofs.Normal.Lasso as normal
 use Rattle.transforms.proofs.Normal.Parts.{mem_least_of, mem_greatest_of}
 use Rattle.transforms.proofs.Normal.PlainFormula.{exclusive}
-use Rattle.refusals.specs.declared.Outcome.TheVariants.{Accepted}
+use Rattle.std.specs.Prelude.{Ok}
 use Rattle.table.specs.Table.{formulas, formula_of, rule}
 use Rattle.table.specs.Checks.{checked}
 use Rattle.table.specs.Header.{body, headed_checked}
@@ -44,7 +44,7 @@ use Rattle.part_laws.specs.Told.{Told, PartWord, Unfolded}
 use Rattle.part_laws.proofs.Words.{word-least, word-greatest, word-listed, word-chosen, listed-word, bit-numbered}
 use Rattle.part_laws.proofs.Choices.{choices_below, sub-disjoin, same_bits}
 
-module _ (limit : ℕ) (t : List ℕ) (ok : checked true limit t ≡ Accepted) (small : limit ≤ 16383) where
+module _ (limit : ℕ) (t : List ℕ) (ok : checked true limit t ≡ Ok tt) (small : limit ≤ 16383) where
   formed : WellFormed true limit t
   formed = accepted-well-formed true limit t ok
 
@@ -209,7 +209,7 @@ module _ (limit : ℕ) (t : List ℕ) (ok : checked true limit t ≡ Accepted) (
     }
 
 -- the same of an accepted table with its header
-module _ (limit : ℕ) (s : List ℕ) (ok : headed_checked true limit s ≡ Accepted) (small : limit ≤ 16383) where
+module _ (limit : ℕ) (s : List ℕ) (ok : headed_checked true limit s ≡ Ok tt) (small : limit ≤ 16383) where
   pub headed-told : Told (body s)
   headed-told = told limit (body s) (accepted-headed true limit s ok).words small
 

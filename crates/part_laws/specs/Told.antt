@@ -4,7 +4,7 @@ use mathlib.Core.List.{List, map, Memᴰ}
 use Rattle.logic.specs.Lasso.{Lasso, word}
 use Rattle.logic.specs.Semantics.{Holds}
 use Rattle.transforms.specs.NormalForm.{choices, disjoin}
-use Rattle.refusals.specs.declared.Outcome.TheVariants.{Accepted}
+use Rattle.std.specs.Prelude.{Ok}
 use Rattle.table.specs.Table.{formulas, formula_of, rule}
 use Rattle.table.specs.Header.{headed, headed_checked}
 use Rattle.table.specs.Steps.{fixpoints}
@@ -28,7 +28,7 @@ pub record PartWord (t : List ℕ) (c m : ℕ) : Type 0 where
 -- of an unfolded form whose numbers fit their fields
 pub record Unfolded (t : List ℕ) : Type 0 where
   -- the judge takes it, and it holds where the rule holds
-  pub accepted : headed_checked false 16383 (headed (unfolded_table t)) ≡ Accepted
+  pub accepted : headed_checked false 16383 (headed (unfolded_table t)) ≡ Ok tt
   pub holds : (r : Lasso) (i : ℕ) → Holds (word r) (rule (unfolded_table t)) i ↔ Holds (word r) (rule t) i
   -- it joins the parts of all choices, and of nothing else, each of which is a word of it
   pub joined : rule (unfolded_table t) ≡ disjoin (map (part_of t) (choices (length (fixpoints t))))

@@ -12,7 +12,8 @@ use slots::slot;
 use sums::Sum;
 use table::kinds;
 
-// The sum with the part of the choice joined to it, if the choice has so many chosen words. A part that folds to false adds nothing.
+// The sum with the part of the choice joined to it, if the choice has so many chosen words; none where there is no room. A part that folds to
+// false adds nothing.
 pub fn with_part(
     table: &[u32],
     positions: &[u8],
@@ -25,7 +26,7 @@ pub fn with_part(
     out: &mut [u32],
     index: &mut [u16],
     sum: Sum,
-) -> Sum
+) -> Option<Sum>
     requires joinable { Joinable table.now positions.now draft.old folded.old numbers.old stack.old (state out.old index.old) }
     requires untrue { Untrue table.now choice × Small sum }
     ensures grown { Grown
@@ -36,15 +37,13 @@ pub fn with_part(
         result }
     ensures laid { Laid table.now draft.new (length table.now) }
 {
-    if u32::count_ones(choice) != ones {
-        return sum;
-    }
-    if let Sum::Full = sum {
-        return Sum::Full;
+    if choice.count_ones() != ones {
+        return Some(sum);
     }
     let root = parts::part(table, positions, choice, draft, folded);
     if slot::kind(folded[root]) == kinds::FALSE {
-        return sum;
+        return Some(sum);
     }
-    sums::join(sum, folded, root, numbers, stack, out, index)
+    let joined = sums::join(sum, folded, root, numbers, stack, out, index)?;
+    Some(Some(joined))
 }

@@ -1,10 +1,15 @@
 -- A draft none of whose slots has a number.
-use Prim.Native.Nat.{ℕ}
+use Prim.Native.Nat.{ℕ, ◌<◌}
 use mathlib.Core.Path.{◌≡◌}
 use mathlib.Core.List.{List}
 use lib.ListN.{length, replicate, length-replicate}
-use Rattle.placing.specs.State.{State, written}
-use Rattle.draft_numbering.specs.Numberable.{Numberable}
+use Rattle.std.specs.Prelude.{Option, Some, None}
+use Rattle.logic.specs.Formula.{Formula}
+use Rattle.table.specs.Answers.{OrNone}
+use Rattle.table.specs.Numbering.{build}
+use Rattle.drafts.specs.Drafted.{Drafted}
+use Rattle.placing.specs.State.{State, written, Placing}
+use Rattle.draft_numbering.specs.Numberable.{Numberable, Rooted}
 use Rattle.draft_numbering.proofs.Remembering.{remembered_none}
 use Rattle.parts.specs.Parts.{Numberless}
 
@@ -19,3 +24,9 @@ numberable {folded} {numbers} {s = s} q z = record {
   stack_long = q.stack_long;
   remembered = rw z (remembered_none folded (length numbers) (written s));
 }
+
+-- what was placed, or that there was no room
+pub placed : (folded numbers : List ℕ) (root : ℕ) (s e : State) (φ : Formula) → Drafted folded φ root → (r : Option ℕ)
+    → OrNone (λ n. Rooted folded root s e numbers n) r → OrNone (λ n. Placing s e (build (written s) φ) n) r
+placed folded numbers root s e φ d None p = p.placed φ d
+placed folded numbers root s e φ d (Some n) p = (p.0, p.1.placed φ d)

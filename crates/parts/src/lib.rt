@@ -3,6 +3,7 @@
 
 ghost use Rattle.std.specs.Prelude.{length};
 ghost use Rattle.logic.specs.Formula.{Formula};
+ghost use Rattle.table.specs.Answers.{OrNone};
 ghost use Rattle.table.specs.Numbering.{build};
 ghost use Rattle.placing.specs.State.{state, written, Placing};
 ghost use Rattle.drafts.specs.Drafted.{Drafted};
@@ -26,7 +27,7 @@ pub fn part(
     root
 }
 
-// The number of the root's formula, or 0 where it finds no room.
+// The number of the root's formula, or none where it finds no room.
 pub fn number(
     folded: &[u64],
     root: usize,
@@ -34,14 +35,16 @@ pub fn number(
     stack: &mut [u32],
     out: &mut [u32],
     index: &mut [u16],
-) -> usize
+) -> Option<usize>
     requires { Numberless folded.now root numbers.old stack.old (state out.old index.old) }
-    ensures { (φ : Formula) → Drafted folded.now φ root → Placing
+    ensures { (φ : Formula) → Drafted folded.now φ root → OrNone
+        (λ n. Placing
         (state out.old index.old)
         (state out.new index.new)
         (build (written (state out.old index.old)) φ)
+        n)
         result }
 {
-    number_clearing::numbers(numbers);
+    numbers.fill(0);
     draft_numbering::number(folded, root, numbers, stack, out, index)
 }

@@ -4,10 +4,16 @@
 
 ghost use Rattle.claims.specs.Claim.{Claim};
 
-use table::answer::{Answer, Form};
+use refusals::Refusal;
+use table::answer::Form;
 use table::settings::Limits;
 
-pub fn form(limits: Limits, table: &[u32], plain: &mut [u32], form: &mut [u32]) -> Form
+pub fn form(
+    limits: Limits,
+    table: &[u32],
+    plain: &mut [u32],
+    form: &mut [u32],
+) -> Result<Form, Refusal>
     ensures { Claim
         limits
         table.now
@@ -17,8 +23,6 @@ pub fn form(limits: Limits, table: &[u32], plain: &mut [u32], form: &mut [u32]) 
         form.new
         result }
 {
-    match nnf::plain_form(limits, table, plain) {
-        Answer::Refused(r) => Form::Refused(r),
-        Answer::Made(n) => normal_form::form(limits, &plain[0..n], form),
-    }
+    let n = nnf::plain_form(limits, table, plain)?;
+    normal_form::form(limits, &plain[0..n], form)
 }

@@ -9,8 +9,7 @@ use lib.Seq.{length-take-le, drop-append-le}
 use Rattle.logic.specs.Formula.{Formula}
 use Rattle.logic.specs.Letters.{Letters}
 use Rattle.refusals.specs.declared.Refusal.{Refusal}
-use Rattle.refusals.specs.declared.Outcome.TheVariants as outcome
-use Rattle.table.specs.declared.answer.Answer.TheVariants.{Refused}
+use Rattle.std.specs.Prelude.{Err}
 use Rattle.refusals.specs.Refusals.{first}
 use Rattle.table.specs.Frame.{Step}
 use Rattle.table.specs.Numbering.{fits, build, table_of}
@@ -66,5 +65,5 @@ written_part u out {part} {most} {k} {n} short h q = record { unfit = unfit; fit
         }
 
 -- a step that is refused before 12
-pub ends-refused : (s : Step) (t result : List ℕ) → Early s → (r : Refusal) → first (s.checks t) ≡ outcome.Refused r → Ends s t result (Refused r) result
+pub ends-refused : (s : Step) (t result : List ℕ) → Early s → (r : Refusal) → first (s.checks t) ≡ Err r → Ends s t result (Err r) result
 ends-refused s t result early r e = record { reply = sym (refused-answer s t result r e); slice = sym (refused-result s t result early r e) }

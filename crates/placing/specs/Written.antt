@@ -1,6 +1,6 @@
 -- A table written at the front of a slice, and the answer and the slice with which a step ends.
 use Rattle.std.specs.Prelude.{ℕ, ◌≡◌, true, false, List, ◌++◌, length, drop}
-use Rattle.table.specs.declared.answer.Answer.{Answer}
+use Rattle.table.specs.Answers.{Answer}
 use Rattle.table.specs.Frame.{Step, answer_of, result_of}
 use Rattle.table.specs.Numbering.{fits}
 

@@ -13,6 +13,7 @@ pub const FALSE: usize = 0;
 
 pub const TRUE: usize = 1;
 
+// Two functions, and not one with a flag: the plain form is specified as two that call each other (docs/DECISIONS.md, 106).
 // The slot at which the plain form of word j stands.
 #[cycle(denied_wanted)]
 pub fn wanted(table: &[u32], draft: &mut [u64], j: usize) -> usize

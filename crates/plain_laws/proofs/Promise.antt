@@ -13,12 +13,11 @@ use Rattle.logic.specs.Lasso.{Lasso, word}
 use Rattle.logic.specs.Semantics.{Holds}
 use Rattle.logic.specs.NegationNormalForm.{plain}
 use Rattle.logic.proofs.Lasso.Duality as duality
-use Rattle.refusals.specs.declared.Outcome.TheVariants.{Accepted}
+use Rattle.std.specs.Prelude.{Ok}
 use Rattle.table.specs.Node.{Shape, none, constant, letter, unary, binary, kind, left, right, shape, left_field, right_field}
 use Rattle.table.specs.Table.{formulas, formula_of, formula_by, rule}
 use Rattle.table.specs.Checks.{is_operand, checked}
 use Rattle.table.specs.Steps.{plain_table}
-use Rattle.table.specs.declared.answer.Answer.TheVariants.{Made}
 use Rattle.table.specs.declared.settings.Limits.{Limits}
 use Rattle.refusals.specs.Refusals.{first}
 use Rattle.table.specs.Limits.{is_permitted}
@@ -81,7 +80,7 @@ operands_by t p (binary release) n l r f g h = ((p, l, f refl, refl), (p, r, g r
 operands_by t p (binary strong) n l r f g h = ((p, l, f refl, refl), (p, r, g refl, refl))
 operands_by t p (binary implies) n l r f g h = ((not p, l, f refl, refl), (p, r, g refl, refl))
 
-module _ (limit : ℕ) (t : List ℕ) (ok : checked false limit t ≡ Accepted) where
+module _ (limit : ℕ) (t : List ℕ) (ok : checked false limit t ≡ Ok tt) where
   well-formed : (i : ℕ) → i < length t → WellFormedWord false (take i t) (suc i) (get_or t i 0)
   well-formed = (accepted-well-formed false limit t ok).word
 
@@ -119,7 +118,7 @@ module _ (limit : ℕ) (t : List ℕ) (ok : checked false limit t ≡ Accepted) 
     second = λ o a b f. (operands_of (bin o a b) f).1;
   }
 
-module _ (limit : ℕ) (t : List ℕ) (ok : checked false limit t ≡ Accepted) where
+module _ (limit : ℕ) (t : List ℕ) (ok : checked false limit t ≡ Ok tt) where
   rule-form : plain true (rule t) ≡ form_of true t (length t)
   unfolding rule
   rule-form = refl
@@ -166,7 +165,7 @@ module _ (limit : ℕ) (t : List ℕ) (ok : checked false limit t ≡ Accepted) 
   -- the limit leaves room in the fields of a word for every number
   module _ (small : limit ≤ 8190) where
     -- it passes the checks 1 to 10 of every step whose limit is two words for each written one and two more, also where that step takes plain tables only
-    pub plain-accepted : (plain_only : Bool) (next-limit : ℕ) → 2 * limit + 2 ≤ next-limit → next-limit ≤ 16383 → checked plain_only next-limit (plain_table t) ≡ Accepted
+    pub plain-accepted : (plain_only : Bool) (next-limit : ℕ) → 2 * limit + 2 ≤ next-limit → next-limit ≤ 16383 → checked plain_only next-limit (plain_table t) ≡ Ok tt
     unfolding plain_table
     plain-accepted b next-limit h l = accepted-table_of b next-limit (plain true (rule t)) (duality.plain-is_plain true (rule t), letters) (omega (arith, plain-short)) l
 
@@ -184,7 +183,7 @@ module _ (limit : ℕ) (t : List ℕ) (ok : checked false limit t ≡ Accepted) 
     plain-letters Q l = subst (Letters Q) (sym plain-rule) (letters-plain Q true (rule t) l)
 
 -- a slice of two words for each written one and two more, and the header, is long enough, so the step answers the form and puts it at the front
-module _ (l : Limits) (p : is_permitted l ≡ true) (t : List ℕ) (ok : headed_checked false l.written t ≡ Accepted) (result : List ℕ)
+module _ (l : Limits) (p : is_permitted l ≡ true) (t : List ℕ) (ok : headed_checked false l.written t ≡ Ok tt) (result : List ℕ)
     (long : 2 * length (body t) + 3 ≤ length result) where
   long_enough : result_fits (length (headed (plain_table (body t)))) (length result) ≡ true
   long_enough =
@@ -192,11 +191,11 @@ module _ (l : Limits) (p : is_permitted l ≡ true) (t : List ℕ) (ok : headed_
       le-leb (suc (length (plain_table (body t)))) (min (length result) 16384)
       (omega (arith, plain-length l.written (body t) words, plain-short l.written (body t) words, (permitted l p).written, long))
 
-  passes : first ((plain_step l).checks t) ≡ Accepted
+  passes : first ((plain_step l).checks t) ≡ Ok tt
   unfolding headed_checked
   passes = permitted-checks l (headed_checks false l.written t) p ∙ ok
 
-  pub plain-answered : answer_of (plain_step l) t (length result) ≡ Made (length (headed (plain_table (body t))))
+  pub plain-answered : answer_of (plain_step l) t (length result) ≡ Ok (length (headed (plain_table (body t))))
   plain-answered = made_answer (plain_step l) t result passes long_enough
 
   pub plain-written : result_of (plain_step l) t result ≡ headed (plain_table (body t)) ++ drop (length (headed (plain_table (body t)))) result

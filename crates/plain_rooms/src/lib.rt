@@ -1,8 +1,10 @@
 // A plain form drafted and numbered, in a draft of the size that the table can need: short tables pay for no more.
 #![tactic(auto)]
 
-ghost use Rattle.std.specs.Prelude.{true};
+ghost use Rattle.std.specs.Prelude.{◌/◌, ◌<◌, ◌≤◌, true};
 ghost use Rattle.logic.specs.NegationNormalForm.{plain};
+ghost use Rattle.table.specs.Answers.{OrNone};
+ghost use Rattle.table.specs.Numbering.{room};
 ghost use Rattle.table.specs.Table.{rule};
 ghost use Rattle.table.specs.Steps.{plain_table};
 ghost use Rattle.drafts.specs.Drafted.{Drafted};
@@ -21,31 +23,29 @@ fn draft_rule(table: &[u32], draft: &mut [u64]) -> usize
     plain_draft::wanted(table, draft, table.len())
 }
 
-fn of_64(table: &[u32], res: &mut [u32]) -> usize
-    requires { Asked 64 table.now res.old }
-    ensures { Written (plain_table table.now) res.old res.new result }
+// The plain form's table at the front of the result, and its length, if it fits: by a draft of `DRAFT` slots, numbered in a room for drafts of
+// at most `SLOTS`, whose index has more than two places for each word that a slice of as many can count for.
+fn write_in<const DRAFT: usize, const SLOTS: usize, const INDEX: usize>(
+    table: &[u32],
+    res: &mut [u32],
+) -> Option<usize>
+    requires asked { Asked DRAFT table.now res.old }
+    requires slots { DRAFT ≤ SLOTS }
+    requires index { (SLOTS ≤ 1048576) × (room SLOTS < INDEX / 2) × (INDEX ≤ 32768) }
+    ensures { OrNone (λ n. Written (plain_table table.now) res.old res.new n) result }
 {
-    let mut draft = [0u64; 130];
+    let mut draft = [0u64; DRAFT];
     let root = draft_rule(table, &mut draft);
-    number_rooms::of_195(&draft, root, res)
+    number_rooms::number::<SLOTS, INDEX>(&draft, root, res)
 }
 
-fn of_256(table: &[u32], res: &mut [u32]) -> usize
-    requires { Asked 256 table.now res.old }
-    ensures { Written (plain_table table.now) res.old res.new result }
-{
-    let mut draft = [0u64; 514];
-    let root = draft_rule(table, &mut draft);
-    number_rooms::of_514(&draft, root, res)
-}
-
-// The plain form's table at the front of the result, and its length; 0 where it does not fit.
-pub fn write(table: &[u32], res: &mut [u32]) -> usize
-    requires { Asked 256 table.now res.old }
-    ensures { Written (plain_table table.now) res.old res.new result }
+// In the smaller room where the table is short.
+pub fn write(table: &[u32], res: &mut [u32]) -> Option<usize>
+    requires { Asked 514 table.now res.old }
+    ensures { OrNone (λ n. Written (plain_table table.now) res.old res.new n) result }
 {
     if table.len() <= 64 {
-        return of_64(table, res);
+        return write_in::<130, 195, 392>(table, res);
     }
-    of_256(table, res)
+    write_in::<514, 514, 1030>(table, res)
 }

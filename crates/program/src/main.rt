@@ -6,101 +6,86 @@
 use console::argument;
 use console::input::{fill, rest};
 use line_end::without_line_end;
-use printing::report::{refused, refused_text};
-use refusals::Outcome;
+use printing::printer::Printer;
+use printing::report::refused;
 use std::io;
 use std::io::{BufWriter, Read, Write};
-use table::answer::{Answer, Form};
+use table::answer::Form;
 
 // The form of a table, printed.
-fn answer<W: Write, E: Write>(
-    out: &mut W,
-    error: &mut E,
-    table: &[u32],
-    as_text: bool,
-) -> io::Result<()> {
+fn answer<W: Write, E: Write>(printer: &mut Printer<W, E>, table: &[u32]) -> io::Result<()> {
     let mut plain = [0u32; 131];
     let mut form = [0u32; 4097];
-    match pipeline::form(limits::desk(), table, &mut plain, &mut form) {
-        Form::Source(n) => printing::form::print(out, error, &plain, n, as_text),
-        Form::Made(n) => printing::form::print(out, error, &form, n, as_text),
-        Form::Refused(r) => refused(out, r),
+    let made = match pipeline::form(limits::desk(), table, &mut plain, &mut form) {
+        Ok(Form::Source(n)) => plain.get(..n),
+        Ok(Form::Made(n)) => form.get(..n),
+        Err(r) => return refused(&mut printer.out, r),
+    };
+    match made {
+        Some(words) => printer.form(words),
+        None => Ok(()),
     }
 }
 
 // The header and at most 65 words, one more than a rule may have, so that a longer input is refused as a table.
-fn answer_bytes<W: Write, E: Write>(
-    out: &mut W,
-    error: &mut E,
-    bytes: &[u8],
-    as_text: bool,
-) -> io::Result<()> {
+fn answer_bytes<W: Write, E: Write>(printer: &mut Printer<W, E>, bytes: &[u8]) -> io::Result<()> {
     let mut words = [0u32; 66];
     let n = decoding::decode(bytes, &mut words);
-    if n <= 66 {
-        answer(out, error, &words[0..n], as_text)?;
-    }
-    Ok(())
+    answer(printer, &words[..n])
 }
 
 fn table<R: Read, W: Write, E: Write>(
     reader: &mut R,
-    out: &mut W,
-    error: &mut E,
-    as_text: bool,
+    printer: &mut Printer<W, E>,
 ) -> io::Result<()> {
     let mut bytes = [0u8; 264];
     let n = fill(reader, &mut bytes)?;
     let odd = rest(reader)?;
     match decoding::check_input(n, odd) {
-        Outcome::Refused(r) => refused(out, r),
-        Outcome::Accepted => answer_bytes(out, error, &bytes[0..n], as_text),
+        Err(r) => refused(&mut printer.out, r),
+        Ok(()) => answer_bytes(printer, &bytes[..n]),
     }
 }
 
-fn answer_text<W: Write, E: Write>(
-    out: &mut W,
-    error: &mut E,
-    bytes: &[u8],
-    as_text: bool,
-) -> io::Result<()> {
+fn answer_text<W: Write, E: Write>(printer: &mut Printer<W, E>, bytes: &[u8]) -> io::Result<()> {
     let mut words = [0u32; 65];
     match text::read(limits::desk(), bytes, &mut words) {
-        Answer::Made(n) => {
-            if n <= 65 {
-                answer(out, error, &words[0..n], as_text)?;
-            }
-            Ok(())
-        }
-        Answer::Refused(r) => refused_text(out, error, r, bytes),
+        Ok(n) => match words.get(..n) {
+            Some(table) => answer(printer, table),
+            None => Ok(()),
+        },
+        Err(r) => printer.refused_text(r, bytes),
     }
 }
 
 // A text of 1,024 bytes, its final line end, and one byte more: of an input that is longer, more than 1,024 are left.
 fn text_input<R: Read, W: Write, E: Write>(
     reader: &mut R,
-    out: &mut W,
-    error: &mut E,
-    as_text: bool,
+    printer: &mut Printer<W, E>,
 ) -> io::Result<()> {
     let mut bytes = [0u8; 1027];
     let n = fill(reader, &mut bytes)?;
     rest(reader)?;
-    let m = without_line_end(&bytes[0..n]);
-    answer_text(out, error, &bytes[0..m], as_text)
+    let m = without_line_end(&bytes[..n]);
+    answer_text(printer, &bytes[..m])
 }
 
 fn main(rt: HostRuntime) -> io::Result<()> {
     let mut reader = rt.stdin();
-    let mut out = BufWriter::new(rt.alloc(), rt.stdout())?;
+    let out = BufWriter::new(rt.alloc(), rt.stdout())?;
     let mut error = rt.stderr();
-    let a = argument::all(&rt);
-    if !a.known {
-        error.write_all(b"usage: program [text] [as-text]\n")?;
-    } else if a.text {
-        text_input(&mut reader, &mut out, &mut error, a.as_text)?;
+    let Some(given) = argument::all(&rt) else {
+        return error.write_all(b"usage: program [text] [as-text]\n");
+    };
+    let mut printer = Printer {
+        out,
+        error,
+        as_text: given.as_text,
+    };
+    if given.text {
+        text_input(&mut reader, &mut printer)?;
     } else {
-        table(&mut reader, &mut out, &mut error, a.as_text)?;
+        table(&mut reader, &mut printer)?;
     }
-    out.flush()
+    printer.out.flush()
 }

@@ -5,23 +5,23 @@ ghost use Rattle.std.specs.Prelude.{◌≡◌};
 ghost use Rattle.refusals.specs.Refusals.{first};
 ghost use Rattle.judge_conditions.specs.Checks.{recording_checks};
 
-use refusals::{Outcome, Refusal};
+use refusals::Refusal;
 
 // 13 to 15, then 22.
-pub fn check_recording(samples: usize, start: usize, driven: usize) -> Outcome
+pub fn check_recording(samples: usize, start: usize, driven: usize) -> Result<(), Refusal>
     ensures { result ≡ first (recording_checks samples start driven) }
 {
     if samples == 0 {
-        return Outcome::Refused(Refusal::NoSample);
+        return Err(Refusal::NoSample);
     }
     if samples > 4096 {
-        return Outcome::Refused(Refusal::TooManySamples);
+        return Err(Refusal::TooManySamples);
     }
     if start >= samples {
-        return Outcome::Refused(Refusal::LoopStartOutside);
+        return Err(Refusal::LoopStartOutside);
     }
     if driven > 32 {
-        return Outcome::Refused(Refusal::TooManyDriven);
+        return Err(Refusal::TooManyDriven);
     }
-    Outcome::Accepted
+    Ok(())
 }

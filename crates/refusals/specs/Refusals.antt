@@ -3,8 +3,11 @@ use Rattle.std.specs.Prelude.{ℕ, Bool, true, false, List, [], ◌∷◌}
 use Rattle.refusals.specs.declared.Refusal.{Refusal}
 use Rattle.refusals.specs.declared.Refusal.TheVariants.{NoWord, TooManyWords, KindZero, NotPlain, OperandZero, OperandNotEarlier, LetterOutOfRange, FieldNotZero, Repeated, Unused, TooManyFixpoints, ResultTooShort, NoSample, TooManySamples, LoopStartOutside, ScratchTooShort, TallyFull, NotWords, NotGrammar, TextTooLong, LetterNotDriven, TooManyDriven, CountDiffers, HeaderWrong, LimitsOutside, DeskOutside, DrivenCountsDiffer, NotDeltaTwo, StateOutside}
 use Rattle.refusals.specs.declared.Report.{Report}
-use Rattle.refusals.specs.declared.Outcome.{Outcome}
-use Rattle.refusals.specs.declared.Outcome.TheVariants.{Accepted, Refused}
+use Rattle.std.specs.Prelude.{Result, Ok, Err, ⊤}
+
+-- what a step that makes nothing answers: nothing, or why it refuses
+abbrev pub Outcome : Type 0
+Outcome = Result ⊤ Refusal
 
 -- a refusal of the whole call, and one at a word
 abbrev whole : ℕ → Report
@@ -53,8 +56,8 @@ place_of r = (report_of r).1
 
 -- an outcome as two numbers, both 0 where the call is accepted
 abbrev pub outcome_report : Outcome → Report
-outcome_report Accepted = whole 0
-outcome_report (Refused r) = report_of r
+outcome_report (Ok tt) = whole 0
+outcome_report (Err r) = report_of r
 
 abbrev pub outcome_number : Outcome → ℕ
 outcome_number o = (outcome_report o).0
@@ -73,10 +76,10 @@ b ⇒ r = record { fails = b; refusal = r }
 
 -- what is said where a condition applies, or else
 abbrev pub decide_by : Bool → Refusal → Outcome → Outcome
-decide_by true r o = Refused r
+decide_by true r o = Err r
 decide_by false r o = o
 
 -- places run downward: the first that applies is returned
 abbrev pub first : List Check → Outcome
-first [] = Accepted
+first [] = Ok tt
 first (c ∷ cs) = decide_by c.fails c.refusal (first cs)

@@ -34,13 +34,6 @@ pub enum Refusal {
     StateOutside,
 }
 
-// A step that has nothing to say when it is accepted.
-#[derive(Clone, Copy)]
-pub enum Outcome {
-    Accepted,
-    Refused(Refusal),
-}
-
 // The number of a refusal, and the place of the faulty word or byte, 0 where it has none.
 #[derive(Clone, Copy)]
 pub struct Report(pub u32, pub usize);

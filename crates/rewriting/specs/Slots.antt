@@ -32,6 +32,10 @@ slot_by (lit b p) l r = pack (cond b 3 4) 0 p
 slot_by (un o a) l r = pack (unary_kind o) 0 r
 slot_by (bin o a b) l r = pack (binary_kind o) l r
 
+-- x is the slot of the operator of w, over operands at the slots l and r
+pub record KeptSlot (w l r x : ℕ) : Type 0 where
+  pub is : (a b : Formula) → x ≡ slot_by (word_by w a b) l r
+
 -- the operands of an opening form: for R the left one, and for W the right one, is an or with a G
 abbrev pub left_by : Binary → ℕ → ℕ → ℕ
 left_by conj e l = place Opening l

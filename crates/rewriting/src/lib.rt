@@ -1,23 +1,36 @@
-// The opening form of a word, as slots of a choice's draft.
+// The slot of a word that a rewriting keeps, and the opening form of a word, as slots of a choice's draft.
 #![tactic(auto)]
 
 ghost use Rattle.std.specs.Prelude.{◌<◌};
+ghost use Rattle.table.specs.Node as node;
+ghost use Rattle.form_places.specs.Places as places;
 ghost use Rattle.rewriting.specs.Slots as specs;
 
 use form_places::{Rewriting, globally, next, operator, place};
 use slots::slot;
 use table::kinds;
 
-// W becomes a U (b or G a'), and R becomes (a or G b') M b, with a' and b' the steady forms: `either` is the slot of the or.
-pub fn opening(w: u32, either: usize) -> u64
-    requires { specs.Plain w × (either < 1048576) }
-    ensures { specs.OpeningSlot w either result }
+// The operator of w, over the same rewriting of its operands: what most words become.
+pub fn kept(rewriting: Rewriting, w: u32) -> u64
+    requires { specs.Plain w }
+    ensures { specs.KeptSlot w (places.place rewriting (node.left w)) (places.place rewriting (node.right w)) result }
 {
     let kind = word::kind(w);
     match kind {
         kinds::FALSE..=kinds::TRUE => slot::pack(kind, 0, 0),
         kinds::LETTER..=kinds::NOT_LETTER => slot::pack(kind, 0, word::right(w)),
-        kinds::NEXT => next(Rewriting::Opening, w),
+        kinds::NEXT => next(rewriting, w),
+        kinds::AND..=kinds::STRONG => operator(rewriting, kind, w),
+        _ => 0,
+    }
+}
+
+// W becomes a U (b or G a'), and R becomes (a or G b') M b, with a' and b' the steady forms: `either` is the slot of the or.
+pub fn opening(w: u32, either: usize) -> u64
+    requires { specs.Plain w × (either < 1048576) }
+    ensures { specs.OpeningSlot w either result }
+{
+    match word::kind(w) {
         kinds::WEAK => slot::pack(
             kinds::UNTIL,
             place(Rewriting::Opening, word::left(w)),
@@ -28,8 +41,7 @@ pub fn opening(w: u32, either: usize) -> u64
             either,
             place(Rewriting::Opening, word::right(w)),
         ),
-        kinds::AND..=kinds::STRONG => operator(Rewriting::Opening, kind, w),
-        _ => 0,
+        _ => kept(Rewriting::Opening, w),
     }
 }
 

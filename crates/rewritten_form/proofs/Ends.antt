@@ -8,8 +8,8 @@ use lib.ListN.{length, take, length-drop}
 use borrow.Rule.Slice.PartMut.{put_mid}
 use Rattle.refusals.specs.declared.Refusal.{Refusal}
 use Rattle.refusals.specs.declared.Refusal.TheVariants.{TooManyFixpoints}
-use Rattle.table.specs.declared.answer.Answer.{Answer}
-use Rattle.table.specs.declared.answer.Answer.TheVariants.{Made, Refused}
+use Rattle.table.specs.Answers.{Answer, OrNone, or_zero}
+use Rattle.std.specs.Prelude.{Ok, Err, Option, Some, None}
 use Rattle.table.specs.declared.answer.Form.TheVariants as form
 use Rattle.table.specs.declared.settings.Limits.{Limits}
 use Rattle.refusals.specs.Refusals.{first}
@@ -46,7 +46,7 @@ module _ {l : Limits} {words : List ℕ} (w : Rewritable l words) (result : List
   checks : first ((normal_step l).checks (headed words)) ≡ first (fixpoint_checks l.fixpoints 1 words)
   checks = form-checked l (headed words) w.permitted w.accepted ∙ ap first (other_checks l (headed words) w.other)
 
-  pub past_refused : 0 < n → Formed l (headed words) result (form.Refused (TooManyFixpoints n)) result
+  pub past_refused : 0 < n → Formed l (headed words) result (Err (TooManyFixpoints n)) result
   past_refused h = ends-formed l (headed words) result (ends-refused (normal_step l) (headed words) result (normal-early l) (TooManyFixpoints n) (checks ∙ q.many h))
 
   module _ (z : n ≤ 0) where
@@ -69,10 +69,10 @@ module _ {l : Limits} {words : List ℕ} (w : Rewritable l words) (result : List
         let made : Given ((normal_step l).makes (headed words)) result e r = rw (other_makes l (headed words) w.other) g in
         ends-formed l (headed words) result (given_ends (normal_step l) (headed words) result (checks ∙ q.few (omega arith)) made)
 
-    pub given_made : {e : List ℕ} {m : ℕ} {r : Answer} → r ≡ Made m → Given (headed (normal_table words)) result e r → Formed l (headed words) result (form.Made m) e
+    pub given_made : {e : List ℕ} {m : ℕ} {r : Answer} → r ≡ Ok m → Given (headed (normal_table words)) result e r → Formed l (headed words) result (Ok (form.Made m)) e
     given_made e g = rw (e, w.other) at (given g)
 
-    pub given_refused : {e : List ℕ} {x : Refusal} {r : Answer} → r ≡ Refused x → Given (headed (normal_table words)) result e r → Formed l (headed words) result (form.Refused x) e
+    pub given_refused : {e : List ℕ} {x : Refusal} {r : Answer} → r ≡ Err x → Given (headed (normal_table words)) result e r → Formed l (headed words) result (Err x) e
     given_refused e g = rw e at (given g)
 
 -- the words of a form, written after the place of their header
@@ -85,15 +85,25 @@ module _ {words : List ℕ} (q : Accepted words) (result : List ℕ) {part : Lis
   unfolding most
   lent = omega (arith, length-drop 1 result)
 
-  pub form-finishable : Finishable (put_mid 1 (length result - 1) result part) n
+  finishable : Finishable (put_mid 1 (length result - 1) result part) n
   unfolding most
-  form-finishable = lent-finishable (normal_table words) result (omega (arith, some)) most (omega arith) lent same w (λ z. record {
+  finishable = lent-finishable (normal_table words) result (omega (arith, some)) most (omega arith) lent same w (λ z. record {
     plain_only = false;
     limit = 16383;
     accepted = normal-accepted q.limit words q.accepted (omega (arith, q.short)) (omega (arith, true-fits (length (normal_table words)) (length (take (length result - 1) (body result))) (w.fit z).fitting));
     small = omega arith;
   })
 
-  pub form_given : {e : List ℕ} {r : Answer} → Finished (put_mid 1 (length result - 1) result part) n e r → Given (headed (normal_table words)) result e r
+  given_part : {e : List ℕ} {r : Answer} → Finished (put_mid 1 (length result - 1) result part) n e r → Given (headed (normal_table words)) result e r
   unfolding most
-  form_given = lent_given (normal_table words) result (omega (arith, some)) most (omega arith) lent same w
+  given_part = lent_given (normal_table words) result (omega (arith, some)) most (omega arith) lent same w
+
+module _ {words : List ℕ} (q : Accepted words) (result part : List ℕ) (some : length result ≡ 0 → ⊥) (same : length part ≡ length (take (length result - 1) (body result))) where
+  pub form-finishable : (n : Option ℕ) → OrNone (λ m. Written (normal_table words) (take (length result - 1) (body result)) part m) n → OrNone (Finishable (put_mid 1 (length result - 1) result part)) n
+  form-finishable None w = finishable q result some same w
+  form-finishable (Some n) w = (w.0, finishable q result some same w.1)
+
+  pub form_given : (n : Option ℕ) → OrNone (λ m. Written (normal_table words) (take (length result - 1) (body result)) part m) n → (e : List ℕ) (r : Answer)
+      → Finished (put_mid 1 (length result - 1) result part) (or_zero n) e r → Given (headed (normal_table words)) result e r
+  form_given None w e r f = given_part q result some same w f
+  form_given (Some n) w e r f = given_part q result some same w.1 f

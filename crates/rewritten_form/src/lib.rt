@@ -8,31 +8,27 @@ ghost use Rattle.form_rooms.specs.Rooms.{Accepted};
 ghost use Rattle.rewritten_form.specs.Forms.{Rewritable, Formed};
 
 use refusals::Refusal;
-use table::answer::{Answer, Form};
+use table::answer::Form;
 use table::settings::Limits;
 
 // 11 and 12 of words that are not their own form, and their normal form.
-pub fn rewrite(limits: Limits, words: &[u32], res: &mut [u32]) -> Form
+pub fn rewrite(limits: Limits, words: &[u32], res: &mut [u32]) -> Result<Form, Refusal>
     requires { Rewritable limits words.now }
     ensures { Formed limits (headed words.now) res.old result res.new }
 {
-    let past = fixpoint_checks::past(words, limits.fixpoints);
-    if 0 < past {
-        return Form::Refused(Refusal::TooManyFixpoints(past));
+    if let Some(past) = fixpoint_checks::past(words, limits.fixpoints) {
+        return Err(Refusal::TooManyFixpoints(past));
     }
-    match answer(words, res) {
-        Answer::Made(n) => Form::Made(n),
-        Answer::Refused(r) => Form::Refused(r),
-    }
+    Ok(Form::Made(answer(words, res)?))
 }
 
 // The form of words that can be formed, under its header.
-fn answer(words: &[u32], res: &mut [u32]) -> Answer
+fn answer(words: &[u32], res: &mut [u32]) -> Result<usize, Refusal>
     requires { Accepted words.now }
     ensures { Given (headed (normal_table words.now)) res.old res.new result }
 {
-    if res.len() == 0 {
-        return headed_answers::finish(res, 0);
+    if res.is_empty() {
+        return headed_answers::finish(res, None);
     }
     let n = forms::form(words, &mut res[1..]);
     headed_answers::finish(res, n)

@@ -18,16 +18,13 @@ pub fn read_answer(row: &[u64], positions: usize, tally: Tally) -> Judged
     ensures { (f : Sequence) → row.now ≡ rows.row positions f → (result.answer ≡ judgement f positions) × (result.tally ≡ tally_after tally (f 0)) }
 {
     let holds = holds_at(row, 0);
-    let moments = count_held(row);
-    let failing = first_failing(row, positions);
-    let answer = Judgement::Judged {
+    let answer = Judgement {
         holds,
-        moments,
-        failing,
+        moments: count_held(row),
+        failing: first_failing(row, positions),
     };
-    let after = tally.after(holds);
     Judged {
-        answer,
-        tally: after,
+        answer: Ok(answer),
+        tally: tally.after(holds),
     }
 }

@@ -16,10 +16,7 @@ fn first_operand(word: u32) -> usize
     ensures { result ≡ first_operand word }
 {
     let left = word::left(word);
-    if left == 0 {
-        return word::right(word);
-    }
-    left
+    if left == 0 { word::right(word) } else { left }
 }
 
 // The row of word j + 1, in its own part of the scratch, after those of the words before it; a and b are for the rows that it reads.
@@ -57,8 +54,7 @@ pub fn fill_rows(table: &[u32], samples: &[u32], start: usize, scratch: &mut [u6
     let words = row_words(samples.len());
     let mut a = [0u64; 64];
     let mut b = [0u64; 64];
-    let mut j = 0;
-    'each: while j < table.len() {
+    'each: for j in 0..table.len() {
         fill_row(
             table,
             j,
@@ -68,6 +64,5 @@ pub fn fill_rows(table: &[u32], samples: &[u32], start: usize, scratch: &mut [u6
             &mut a[..words],
             &mut b[..words],
         );
-        j += 1;
     }
 }

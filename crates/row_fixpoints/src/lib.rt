@@ -32,11 +32,9 @@ pub fn write_fixpoint(
         → row.new ≡ rows.row positions (closed_sweep positions start G P greatest) }
 {
     let end = value_at(g, p, positions, start, greatest);
-    if end {
-        if everywhere(g, p, positions) {
-            write_constant(row, positions, true);
-            return;
-        }
+    if end && everywhere(g, p, positions) {
+        write_constant(row, positions, true);
+        return;
     }
     if settled(g, p, positions, end) {
         write_connective(row, Connective::Left, g, p, positions);

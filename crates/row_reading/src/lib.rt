@@ -22,10 +22,8 @@ pub fn count_held(row: &[u64]) -> usize
     ensures { (L : ℕ) (f : Sequence) → row.now ≡ rows.row L f → result ≡ rows.count_true f L }
 {
     let mut held: usize = 0;
-    let mut w = 0;
-    while w < row.len() {
-        held += u64::count_ones(row[w]) as usize;
-        w += 1;
+    for word in row {
+        held += word.count_ones() as usize;
     }
     held
 }
@@ -35,13 +33,11 @@ pub fn first_failing(row: &[u64], positions: usize) -> usize
     requires { RowFor positions row.now }
     ensures { (f : Sequence) → row.now ≡ rows.row positions f → result ≡ rows.first_false f 0 positions }
 {
-    let mut w = 0;
-    while w < row.len() {
-        let failing = ones(filled(positions, w)) ^ row[w];
+    for (w, word) in row.iter().enumerate() {
+        let failing = ones(filled(positions, w)) ^ *word;
         if failing != 0 {
-            return w * 64 + u64::trailing_zeros(failing) as usize;
+            return w * 64 + failing.trailing_zeros() as usize;
         }
-        w += 1;
     }
     positions
 }

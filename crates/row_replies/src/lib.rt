@@ -2,39 +2,36 @@
 #![tactic(auto)]
 
 ghost use Rattle.std.specs.Prelude.{◌≡◌, ◌+◌, ◌-◌, ◌*◌, ◌≤◌};
-ghost use Rattle.refusals.specs.declared.Outcome.TheVariants.{Accepted};
+ghost use Rattle.std.specs.Prelude.{Ok};
 ghost use Rattle.row_words.specs.Row.{row_words};
 ghost use Rattle.judge_replies.specs.Replies.{RowReply};
 
-use refusals::Outcome;
+use outcome_replies::reply;
+use refusals::Refusal;
 use row_words::row_word::row_words;
 
 // Of a table of so many words, its header among them: its refusal number and place, and which part of the scratch is the rule's own row.
 pub fn row_reply(
-    outcome: Outcome,
+    outcome: Result<(), Refusal>,
     table: usize,
     samples: usize,
     from: &mut usize,
     words: &mut usize,
     place: &mut usize,
 ) -> u32
-    requires { outcome ≡ Accepted → (2 ≤ table) × (samples ≤ 4096) × ((table - 2) * row_words samples + row_words samples ≤ 1048576) }
+    requires { outcome ≡ Ok tt → (2 ≤ table) × (samples ≤ 4096) × ((table - 2) * row_words samples + row_words samples ≤ 1048576) }
     ensures { RowReply outcome (table - 1) samples result from.new words.new place.new }
 {
     match outcome {
-        Outcome::Refused(why) => {
+        Err(_) => {
             *from = 0;
             *words = 0;
-            let report = reports::report_of(why);
-            *place = report.1;
-            report.0
         }
-        Outcome::Accepted => {
+        Ok(()) => {
             let width = row_words(samples);
             *from = (table - 2) * width;
             *words = width;
-            *place = 0;
-            0
         }
     }
+    reply(outcome, place)
 }

@@ -1,20 +1,16 @@
 -- Sweeps over rows: the words with the carry taken in, and their closing.
 use mathlib.Core.Path.{◌≡◌, refl, ap, ap₂, ◌∙◌}
 use mathlib.Core.Bool.{Bool, false}
-use Prim.Native.Nat.{ℕ, suc, ◌+◌, ◌-◌, ◌*◌, ◌/◌, ◌≤◌, ◌<◌, min}
+use Prim.Native.Nat.{ℕ, suc, ◌+◌, ◌-◌, ◌*◌, ◌/◌, ◌<◌, min}
 use native.Mathlib.Omega.{arith}
 use Rattle.logic.specs.Truth.{Sequence, sweep}
-use Rattle.row_words.specs.Row.{pack_bits, row_words, filled, word_of, word_sweep}
+use Rattle.row_words.specs.Row.{pack_bits, filled, word_of, word_sweep}
 use Rattle.row_words.proofs.Bits.{pack_ext}
 use Rattle.row_words.proofs.Sweep.{sweep_ext}
 use Rattle.word_carries.specs.Carried.{carried_in}
 use Rattle.row_sweeps.specs.Carried.{carried_row}
 use Rattle.word_carries.proofs.Carries.{sweep_carried}
 use Rattle.row_words.proofs.Rows.{pack-word, sweep_from}
-
--- a word before the last one is full
-pub inner-full : (L words w : ℕ) → words ≡ row_words L → w ≤ words → 0 < w - 1 → 64 ≡ filled L (w - 1 - 1)
-inner-full L words w e h some = omega arith
 
 -- word w of the goals that have taken the carry in, from what the sweep comes to at the first position of the word after
 pub word_carried : (L : ℕ) (G P : Sequence) (c carry : Bool) (w u n x : ℕ) → w * 64 < L → u ≡ suc w → n ≡ filled L w → carry ≡ sweep G P c (u * 64) (L - u * 64)

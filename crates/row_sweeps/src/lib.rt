@@ -20,11 +20,10 @@ fn carry_words(row: &mut [u64], g: &[u64], p: &[u64], positions: usize, end: boo
         → p.now ≡ rows.row positions P
         → row.new ≡ rows.row positions (carried_row positions G P end) }
 {
-    let mut w = row.len();
-    let mut n = filled(positions, w - 1);
+    let mut n = filled(positions, row.len() - 1);
     let mut carry = end;
-    while 0 < w {
-        w -= 1;
+    // By index: the words of three rows stand at it.
+    for w in (0..row.len()).rev() {
         let x = g[w];
         let q = p[w];
         row[w] = carried(x, q, carry, n);
@@ -34,6 +33,7 @@ fn carry_words(row: &mut [u64], g: &[u64], p: &[u64], positions: usize, end: boo
 }
 
 // Each word swept by itself, with nothing carried in: no word waits for another, so that LLVM can take several at once.
+// By index, since nothing would be known of the words that a `zip` of `iter_mut` wrote.
 fn close_words(row: &mut [u64], p: &[u64])
     requires { length p.now ≡ length row.old }
     ensures { (positions : ℕ) (G P : Sequence)
@@ -41,10 +41,8 @@ fn close_words(row: &mut [u64], p: &[u64])
         → p.now ≡ rows.row positions P
         → row.new ≡ rows.row positions (rows.word_sweep positions G P false) }
 {
-    let mut w = 0;
-    while w < row.len() {
-        row[w] = closed(row[w], p[w]);
-        w += 1;
+    for (w, word) in row.iter_mut().enumerate() {
+        *word = closed(*word, p[w]);
     }
 }
 

@@ -18,11 +18,10 @@ pub fn everywhere(g: &[u64], p: &[u64], positions: usize) -> bool
 {
     let last = g.len() - 1;
     let mut missing: u64 = 0;
-    let mut w = 0;
-    while w < last {
-        missing = missing | ((g[w] | p[w]) ^ u64::MAX);
-        w += 1;
+    // By index, and with no early end: the words of both rows are read at once, several by one instruction.
+    for w in 0..last {
+        missing |= (g[w] | p[w]) ^ u64::MAX;
     }
-    missing = missing | ((g[last] | p[last]) ^ ones(filled(positions, last)));
+    missing |= (g[last] | p[last]) ^ ones(filled(positions, last));
     missing == 0
 }

@@ -9,7 +9,7 @@ pub fn row_words(positions: usize) -> usize
     requires { positions ≤ 4096 }
     ensures { result ≡ rows.row_words positions }
 {
-    (positions + 63) / 64
+    positions.div_ceil(64)
 }
 
 // How many of the positions stand in word w of their row.
@@ -17,8 +17,7 @@ pub fn filled(positions: usize, w: usize) -> usize
     requires { (w * 64 < positions) × (positions ≤ 4096) }
     ensures { result ≡ rows.filled positions w }
 {
-    let left = positions - w * 64;
-    if 64 < left { 64 } else { left }
+    (positions - w * 64).min(64)
 }
 
 // n ones.
@@ -42,10 +41,7 @@ pub fn constant(value: bool, n: usize) -> u64
     requires { (1 ≤ n) × (n ≤ 64) }
     ensures { (i : ℕ) → result ≡ rows.pack_bits (λ k. value) i n }
 {
-    if value {
-        return ones(n);
-    }
-    0
+    if value { ones(n) } else { 0 }
 }
 
 // The next position's value at n positions: the last one takes the first of the word after.

@@ -14,11 +14,7 @@ pub fn write_constant(row: &mut [u64], positions: usize, value: bool)
     ensures { row.new ≡ rows.row positions (λ i. value) }
 {
     let last = row.len() - 1;
-    let mut w = 0;
-    while w < last {
-        row[w] = constant(value, 64);
-        w += 1;
-    }
+    row.fill(constant(value, 64));
     row[last] = constant(value, filled(positions, last));
 }
 
@@ -31,12 +27,11 @@ fn shift_words(row: &mut [u64], a: &[u64], positions: usize, end: bool)
         → row.new ≡ rows.row positions (rows.next positions A end) }
 {
     let last = row.len() - 1;
-    let mut w = 0;
-    while w < last {
+    // By index: each word reads the word after it too.
+    for w in 0..last {
         row[w] = shift(a[w], a[w + 1], 64);
-        w += 1;
     }
-    row[last] = shift(a[last], end as u64, filled(positions, last));
+    row[last] = shift(a[last], u64::from(end), filled(positions, last));
 }
 
 // X: what comes in at the end is the value at the loop start.

@@ -6,7 +6,8 @@ ghost use Rattle.judging.specs.Judging.{row_outcome, scratch_after, last_row, pa
 ghost use Rattle.refusals.specs.Refusals.{outcome_number, outcome_place};
 
 use judge_checks::checks::check_row;
-use refusals::Outcome;
+use outcome_replies::reply;
+use refusals::Refusal;
 use row_filling::fill_rows;
 use row_words::row_word::row_words;
 
@@ -17,17 +18,13 @@ pub fn fill(
     start: usize,
     driven: usize,
     scratch: &mut [u64],
-) -> Outcome
+) -> Result<(), Refusal>
     ensures value { result ≡ row_outcome table.now samples.now start driven scratch.old }
     ensures scratch_after { scratch.new ≡ scratch_after result table.now samples.now start driven scratch.old }
 {
-    match check_row(table, samples.len(), start, driven, scratch.len()) {
-        Outcome::Refused(why) => Outcome::Refused(why),
-        Outcome::Accepted => {
-            fill_rows(&table[1..], samples, start, scratch);
-            Outcome::Accepted
-        }
-    }
+    check_row(table, samples.len(), start, driven, scratch.len())?;
+    fill_rows(&table[1..], samples, start, scratch);
+    Ok(())
 }
 
 // The row call: the rule's row, the one of the table's last word, where it lies in the scratch, or an empty part with the refusal's number and place.
@@ -46,16 +43,11 @@ pub fn row<'a>(
     ensures number_after { number.new ≡ outcome_number (row_outcome table.now samples.now start driven scratch.old) }
     ensures place_after { place.new ≡ outcome_place (row_outcome table.now samples.now start driven scratch.old) }
 {
-    match fill(table, samples, start, driven, scratch) {
-        Outcome::Refused(why) => {
-            let report = reports::report_of(why);
-            *number = report.0;
-            *place = report.1;
-            &mut scratch[0..0]
-        }
-        Outcome::Accepted => {
-            *number = 0;
-            *place = 0;
+    let outcome = fill(table, samples, start, driven, scratch);
+    *number = reply(outcome, place);
+    match outcome {
+        Err(_) => &mut scratch[0..0],
+        Ok(()) => {
             let words = row_words(samples.len());
             let from = (table.len() - 2) * words;
             let to = from + words;

@@ -1,89 +1,59 @@
-// The pieces of a rule's text, each of at most five bytes, in a number, the first byte lowest; a byte 0 comes after the last.
+// What is written of a word at its turns: what stands before its first operand, between its operands and after them.
+use crate::stack::{Entry, Stack, Written};
+use std::io;
+use std::io::Write;
 
-// false, true and the operators between two operands, with the spaces around them.
-const FALSE: u64 = 0x65736C6166;
-
-const TRUE: u64 = 0x65757274;
-
-const AND: u64 = 0x202620;
-
-const OR: u64 = 0x207C20;
-
-const UNTIL: u64 = 0x205520;
-
-const WEAK: u64 = 0x205720;
-
-const RELEASE: u64 = 0x205220;
-
-const STRONG: u64 = 0x204D20;
-
-const IMPLIES: u64 = 0x203E2D20;
-
-// The piece of one byte.
-fn byte(b: u8) -> u64 {
-    b as u64
-}
-
-// A byte, and then a piece.
-fn before(b: u8, piece: u64) -> u64 {
-    byte(b) | (piece << 8)
-}
-
-fn digit(n: usize) -> u8 {
-    48 + (n % 10) as u8
-}
-
-fn letter(n: usize) -> u64 {
-    let last = byte(digit(n));
-    if n < 10 {
-        return before(b'p', last);
+// What comes next of the word w, whose entry was on top; what is left of it goes back on the stack.
+pub fn turn<W: Write>(out: &mut W, stack: &mut Stack, entry: Entry, w: u32) -> io::Result<()> {
+    match entry.written {
+        Written::Nothing => start(out, stack, entry.word, w),
+        Written::Left => {
+            stack.push(entry.word, Written::Both);
+            stack.push(word::right(w), Written::Nothing);
+            out.write_all(operator(w))
+        }
+        Written::Both => out.write_all(b")"),
     }
-    before(b'p', before(digit(n / 10), last))
 }
 
-// The start of a word: all of it, or what stands before its first operand.
-pub fn start(w: u32) -> u64 {
+fn start<W: Write>(out: &mut W, stack: &mut Stack, n: usize, w: u32) -> io::Result<()> {
+    let right = word::right(w);
     match word::kind(w) {
-        0 | 1 => FALSE,
-        2 => TRUE,
-        3 => letter(word::right(w)),
-        4 => before(b'!', letter(word::right(w))),
-        7 => byte(b'X'),
-        12 => byte(b'!'),
-        13 => byte(b'F'),
-        14 => byte(b'G'),
-        _ => byte(b'('),
+        0 | 1 => out.write_all(b"false"),
+        2 => out.write_all(b"true"),
+        3 => write!(out, "p{right}"),
+        4 => write!(out, "!p{right}"),
+        7 | 12 | 13 | 14 => {
+            stack.push(right, Written::Nothing);
+            out.write_all(prefix(w))
+        }
+        _ => {
+            stack.push(n, Written::Left);
+            stack.push(word::left(w), Written::Nothing);
+            out.write_all(b"(")
+        }
+    }
+}
+
+// The operator before one operand.
+fn prefix(w: u32) -> &'static [u8] {
+    match word::kind(w) {
+        7 => b"X",
+        12 => b"!",
+        13 => b"F",
+        _ => b"G",
     }
 }
 
 // The operator between two operands.
-pub fn operator(w: u32) -> u64 {
+fn operator(w: u32) -> &'static [u8] {
     match word::kind(w) {
-        5 => AND,
-        6 => OR,
-        8 => UNTIL,
-        9 => WEAK,
-        10 => RELEASE,
-        15 => IMPLIES,
-        _ => STRONG,
+        5 => b" & ",
+        6 => b" | ",
+        8 => b" U ",
+        9 => b" W ",
+        10 => b" R ",
+        15 => b" -> ",
+        _ => b" M ",
     }
-}
-
-pub fn end() -> u64 {
-    byte(b')')
-}
-
-// A piece put into a buffer after the bytes that are used, as far as there is room; how many bytes are used then.
-pub fn put(out: &mut [u8], used: usize, piece: u64) -> usize {
-    let mut at = used;
-    let mut left = piece;
-    while at < out.len() {
-        if left == 0 {
-            return at;
-        }
-        out[at] = (left % 256) as u8;
-        at += 1;
-        left = left / 256;
-    }
-    at
 }

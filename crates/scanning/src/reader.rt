@@ -53,9 +53,7 @@ pub fn step(r: Reader, stack: &mut [u32], out: &mut [u32], index: &mut [u16], b:
         (numbers.viewed r stack.old (state out.old index.old))
         b) }
 {
-    let left = r.left;
-    let turn = r.turn;
-    let depth = r.depth;
+    let Reader { left, turn, depth } = r;
     if left != 0 {
         if left % 256 != b as u32 {
             return stuck(depth);

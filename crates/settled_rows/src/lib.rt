@@ -18,14 +18,13 @@ pub fn settled(g: &[u64], p: &[u64], positions: usize, end: bool) -> bool
 {
     let last = g.len() - 1;
     let mut added: u64 = 0;
-    let mut w = 0;
-    while w < last {
+    // By index: each word of both rows and the word after are read at once.
+    for w in 0..last {
         let x = g[w];
-        added = added | ((x | (p[w] & shift(x, g[w + 1], 64))) ^ x);
-        w += 1;
+        added |= (x | (p[w] & shift(x, g[w + 1], 64))) ^ x;
     }
     let x = g[last];
-    let next = shift(x, end as u64, filled(positions, last));
-    added = added | ((x | (p[last] & next)) ^ x);
+    let next = shift(x, u64::from(end), filled(positions, last));
+    added |= (x | (p[last] & next)) ^ x;
     added == 0
 }

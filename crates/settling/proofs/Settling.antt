@@ -6,6 +6,8 @@ use mathlib.Core.Path.{◌≡◌, refl, sym, ap, ◌∙◌}
 use mathlib.Core.Bool.{true, false}
 use mathlib.Core.List.{List, [], ◌∷◌}
 use lib.ListN.{length, get_or, length-append}
+use Rattle.std.specs.Prelude.{Option, None, Some, unwrap_or}
+use Rattle.table.specs.Answers.{OrNone}
 use Rattle.table.specs.Node.{kind, pack}
 use Rattle.table.specs.Numbering.{Placed, find, place_at, put, fits}
 use Rattle.placing.specs.State.{State, count, written, Numbered, Putting}
@@ -42,6 +44,11 @@ put_made {s} {e} w r h l k p =
       small = omega (arith, q.within, q.numbered.within, q.long);
       few = omega (arith, ap length t, written-length q.numbered, put-few (written s) w, written-length h);
     }
+
+-- where no word was put, as 0
+pub put_any : (s e : State) (w : ℕ) (r : Option ℕ) (n : ℕ) → n ≡ unwrap_or r 0 → OrNone (λ m. Putting s e (put (written s) w) m) r → Putting s e (put (written s) w) n
+put_any s e w None n h q = rw h q
+put_any s e w (Some m) n h q = rw h q.1
 
 pub top_pop : (l : List ℕ) (d : ℕ) → 0 < d → top_first l d ≡ get_or l (d - 1) 0 ∷ top_first l (d - 1)
 top_pop l zero h = absurd (not-suc-le-zero h)

@@ -1,5 +1,5 @@
 // The end of an operand: the words of the prefixes that wait for it are put. The stack holds a word for each prefix and each operator whose
-// right operand is not yet read, and 0 for a bracket without an operator.
+// right operand is not yet read, and 0 for a bracket without an operator. There is room for each word, so that none is put as 0.
 #![tactic(auto)]
 
 ghost use Rattle.std.specs.Prelude.{◌≡◌, ◌+◌, ◌≤◌, suc};
@@ -19,7 +19,7 @@ pub struct Operand {
 pub fn is_prefix(kind: u32) -> bool
     ensures { result ≡ settled.is_prefix kind }
 {
-    kind == 7 || 12 <= kind && kind <= 14
+    matches!(kind, 7 | 12..=14)
 }
 
 // An operand has ended: the words of the prefixes that wait for it are put.
@@ -37,14 +37,16 @@ fn settle(stack: &[u32], depth: usize, out: &mut [u32], index: &mut [u16], n: us
         (settled.placed_in (state out.old index.old) n)) }
 {
     let mut number = n;
-    let mut top = depth;
-    while 0 < top {
-        let kind = word::kind(stack[top - 1]);
+    for top in (0..depth).rev() {
+        let kind = word::kind(stack[top]);
         if !is_prefix(kind) {
-            return Operand { number, depth: top };
+            return Operand {
+                number,
+                depth: top + 1,
+            };
         }
-        number = put::put(&mut *out, &mut *index, word::pack(kind, 0, number));
-        top -= 1;
+        let w = word::pack(kind, 0, number);
+        number = put::put(&mut *out, &mut *index, w).unwrap_or(0);
     }
     Operand { number, depth: 0 }
 }
@@ -62,6 +64,6 @@ pub fn end(stack: &[u32], depth: usize, out: &mut [u32], index: &mut [u16], w: u
         (settled.top_first stack.now depth)
         (numbering.put (written (state out.old index.old)) w)) }
 {
-    let n = put::put(&mut *out, &mut *index, w);
+    let n = put::put(&mut *out, &mut *index, w).unwrap_or(0);
     settle(stack, depth, out, index, n)
 }

@@ -15,7 +15,7 @@ pub enum Turn {
     Word(u32),
 }
 
-// The number of slot i, or 0 where it has none yet.
+// The number of slot i, or 0 where it has none yet: the numbers stand in a lent slice, as they are.
 fn number_of(numbers: &[u16], i: usize) -> usize
     requires { Slotted numbers.now i }
     ensures { (result ≡ get_or numbers.now i 0) × (result < 16384) }

@@ -6,7 +6,7 @@ use mathlib.Core.Bool.{true}
 use mathlib.Core.List.{List}
 use lib.ListN.{length, get_or, take}
 use Rattle.table.specs.Node.{kind, left, right}
-use Rattle.refusals.specs.declared.Outcome.TheVariants.{Accepted}
+use Rattle.std.specs.Prelude.{Ok}
 use Rattle.table.specs.Table.{formulas, formula_of}
 use Rattle.table.specs.Checks.{checked}
 use Rattle.table.proofs.Accepted.{WellFormed, WellFormedWord, accepted-well-formed, accepted-formula}
@@ -14,7 +14,7 @@ use Rattle.table.proofs.Fields.{left_lt, right_lt}
 use Rattle.source.specs.Source.{Inside, WordAt}
 
 -- a word of a plain table has a plain kind
-pub plain-kind : (limit : ℕ) (t : List ℕ) → checked true limit t ≡ Accepted → (j : ℕ) → 0 < j → j ≤ length t → kind (get_or t (j - 1) 0) < 12
+pub plain-kind : (limit : ℕ) (t : List ℕ) → checked true limit t ≡ Ok tt → (j : ℕ) → 0 < j → j ≤ length t → kind (get_or t (j - 1) 0) < 12
 plain-kind limit t ok j p h =
     let word = (accepted-well-formed true limit t ok).word (j - 1) (omega arith) in
     omega (arith, word.plain refl)

@@ -1,6 +1,6 @@
 -- A word of an accepted table, by its number, taken apart.
 use Rattle.std.specs.Prelude.{ℕ, ◌-◌, ◌<◌, ◌≤◌, ◌≡◌, Bool, true, List, length, get_or}
-use Rattle.refusals.specs.declared.Outcome.TheVariants.{Accepted}
+use Rattle.std.specs.Prelude.{Ok}
 use Rattle.table.specs.Node.{kind, shape, left_field, right_field}
 use Rattle.table.specs.Table.{formulas, formula_of, formula_by}
 use Rattle.table.specs.Checks.{is_operand, is_blank, checked}
@@ -9,7 +9,7 @@ use Rattle.table.specs.Checks.{is_operand, is_blank, checked}
 pub record Inside (t : List ℕ) (j : ℕ) : Type 0 where
   pub plain : Bool
   pub limit : ℕ
-  pub accepted : checked plain limit t ≡ Accepted
+  pub accepted : checked plain limit t ≡ Ok tt
   pub positive : 0 < j
   pub inside : j ≤ length t
 

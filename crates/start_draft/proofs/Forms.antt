@@ -2,13 +2,12 @@
 use Prim.Native.Nat.{ℕ, ◌+◌, ◌-◌, ◌*◌, ◌<◌, ◌≤◌}
 use native.Mathlib.Nat.{eq-or-lt_of_le}
 use native.Mathlib.Omega.{arith}
-use mathlib.Core.Path.{◌≡◌, refl, sym, ap, ◌∙◌, subst}
+use mathlib.Core.Path.{◌≡◌, refl, sym, ap, ap₂, ◌∙◌}
 use mathlib.Core.Logic.{◌⊎◌, inl, inr}
-use mathlib.Core.Bool.{Bool, true, false, cond, false≢true}
+use mathlib.Core.Bool.{true, false, cond, false≢true}
 use mathlib.Core.List.{List}
 use lib.ListN.{length, get_or, set}
 use lib.Dec.{T}
-use Rattle.logic.specs.Bit.{bit}
 use Rattle.logic.specs.Formula.{Formula, Binary, const, bin, next, conj, disj, until, weak, release, strong}
 use Rattle.logic.specs.ClassByte.{class_byte}
 use Rattle.logic.proofs.Numbers.{in_range}
@@ -25,14 +24,16 @@ use Rattle.automata_laws.specs.StateClass.{StateClass, every, is_smallest}
 use Rattle.automata_laws.specs.FormulaAutomaton.{State, is_proper, combination}
 use Rattle.state_classes.specs.Kept.{word_of, offset}
 use Rattle.state_slots.proofs.Standing.{Stands, Keeps, keeps_all, keeps-set, keeps-three, drafted-keeps, stored-stands}
-use Rattle.state_slots.proofs.Classes.{joined, classed}
+use Rattle.std.specs.Prelude.{None}
+use Rattle.std.specs.Bool.{then_some}
+use Rattle.state_slots.specs.Slots.{class_slots}
+use Rattle.state_slots.proofs.Classes.{given_state, classed}
 use Rattle.word_states.specs.declared.Held.{Held}
-use Rattle.class_bits.specs.Levels.{level}
 use Rattle.word_states.specs.States.{shown, Starting}
 use Rattle.word_states.proofs.Smallest.{sigma_class, pi_class, has_sigma, has_pi, every-shown}
 use Rattle.word_states.proofs.Starts.{sigma-bit, pi-bit, sigma-offset, pi-offset, sigma-least, pi-least}
 use Rattle.word_states.proofs.Words.{constant_at_lem, formula_by_lem, kind_by, combined-proper, byte_is, state-stands}
-use Rattle.start_draft.specs.Filling.{state_slots, Room, combination_at, Filled, Next}
+use Rattle.start_draft.specs.Filling.{state_slots, combination_at, Filled, Next}
 
 -- and, or: the operator, which is kept
 pub record Junction (s : Shape) : Type 0 where
@@ -124,46 +125,36 @@ module _ {t bytes starts d : List ℕ} {j k l r : ℕ} (q : Next t bytes starts 
     byte : get_or bytes (j - 1) 0 ≡ class_byte (word_of t j)
     byte = byte_is q.room.kept j q.word.positive q.word.inside
 
-    sigma_is : h.sigma ≡ has_sigma (word_of t j)
-    sigma_is = m.sigma ∙ ap (λ (n : ℕ). bit n (level n)) byte ∙ sigma-bit (word_of t j)
+    -- the numbers of its states
+    abbrev first : ℕ
+    first = get_or starts j 0 + offset (sigma_class (word_of t j)) (get_or bytes (j - 1) 0)
 
-    pi_is : h.pi ≡ has_pi (word_of t j)
-    pi_is = m.pi ∙ ap (λ (n : ℕ). bit n (level n + 1)) byte ∙ pi-bit (word_of t j)
+    abbrev second : ℕ
+    second = get_or starts j 0 + offset (pi_class (word_of t j)) (get_or bytes (j - 1) 0)
+
+    sigma_is : h.sigma ≡ then_some (has_sigma (word_of t j)) first
+    sigma_is = m.sigma ∙ rw byte (ap₂ (λ b (n : ℕ). then_some b (get_or starts j 0 + n)) (sigma-bit (word_of t j)) (sym (sigma-offset (word_of t j))))
+
+    pi_is : h.pi ≡ then_some (has_pi (word_of t j)) second
+    pi_is = m.pi ∙ rw byte (ap₂ (λ b (n : ℕ). then_some b (get_or starts j 0 + n)) (pi-bit (word_of t j)) (sym (pi-offset (word_of t j))))
+
+    slots_are : state_slots d j h ≡ class_slots d (3 * j) (then_some (has_sigma (word_of t j)) (pack 3 0 first)) (then_some (has_pi (word_of t j)) (pack 3 0 second)) None
+    slots_are = rw (sigma_is, pi_is, given_state (has_sigma (word_of t j)) first, given_state (has_pi (word_of t j)) second)
 
     state : StateClass → Positive State
     state Γ = atom (record { formula = word_of t j; class = Γ })
 
-    stands : (n : ℕ) (Γ : StateClass) → n ≡ get_or starts j 0 + offset Γ (get_or bytes (j - 1) 0) → T (is_smallest (word_of t j) Γ) → Stands d (3 * j) (pack 3 0 n) (shown t (state Γ))
+    stands : (Γ : StateClass) → T (is_smallest (word_of t j) Γ) → Stands d (3 * j) (pack 3 0 (get_or starts j 0 + offset Γ (get_or bytes (j - 1) 0))) (shown t (state Γ))
     unfolding state
-    stands n Γ = state-stands q.room.kept j q.word.positive q.word.inside proper d (3 * j) n Γ
-
-    first_is : h.first ≡ get_or starts j 0 + offset (sigma_class (word_of t j)) (get_or bytes (j - 1) 0)
-    first_is = m.first ∙ ap (λ (n : ℕ). get_or starts j 0 + n) (sym (rw byte (sigma-offset (word_of t j))))
-
-    second_is : h.second ≡ get_or starts j 0 + offset (pi_class (word_of t j)) (get_or bytes (j - 1) 0)
-    second_is = m.second ∙ ap (λ (n : ℕ). get_or starts j 0 + n) (rw byte (sym (pi-offset (word_of t j))))
+    stands Γ = state-stands q.room.kept j q.word.positive q.word.inside proper d (3 * j) _ Γ refl
 
     pub proper-filled : Filled t (state_slots d j h) j
     unfolding state
     proper-filled =
         let φ : Formula = word_of t j in
-        let k = classed d (3 * j) h.sigma h.pi h.further (pack 3 0 h.first) (pack 3 0 h.second) (pack 3 0 h.second)
+        let k = classed d (3 * j) (has_sigma φ) (has_pi φ) false (pack 3 0 first) (pack 3 0 second) 0
         (shown t (state (sigma_class φ))) (shown t (state (pi_class φ))) (const false) (inside q)
-        (λ a. stands h.first (sigma_class φ) first_is (sigma-least φ (sym sigma_is ∙ a)))
-        (λ a. stands h.second (pi_class φ) second_is (pi-least φ (sym pi_is ∙ a)))
-        (λ a b c. absurd (false≢true (sym m.further ∙ c))) in
-        finished q (keeps-three (3 * j) _ _ _ (omega arith) (keeps_all d (3 * j)))
-        (rw (combined-proper every φ proper, every-shown t state φ, sym sigma_is, sym pi_is)
-        (subst (λ (b : Bool). Drafted (state_slots d j h) (joined h.sigma h.pi b (shown t (state (sigma_class φ))) (shown t (state (pi_class φ))) (const false)) (3 * j + 2)) m.further k.three))
-
--- before the first word
-pub none_filled : (t d : List ℕ) → Filled t d 0
-none_filled t d = record { word = λ j p h. absurd (omega arith) }
-
--- after j words comes the next one
-pub next_word : {t bytes starts d e : List ℕ} {j : ℕ} → Room t bytes starts d → length e ≡ length d → Filled t e j → j < length t → Next t bytes starts e (j + 1)
-next_word q h f l = record {
-  room = record { accepted = q.accepted; kept = q.kept; slots = omega (arith, q.slots); few = omega (arith, q.few) };
-  word = record { plain = true; limit = 16383; accepted = q.accepted; positive = omega arith; inside = omega arith };
-  before = λ i p b. f.word i p (omega arith);
-}
+        (λ a. stands (sigma_class φ) (sigma-least φ a))
+        (λ a. stands (pi_class φ) (pi-least φ a))
+        (λ a b c. absurd (false≢true c)) in
+        finished q (keeps-three (3 * j) _ _ _ (omega arith) (keeps_all d (3 * j))) (rw (combined-proper every φ proper, every-shown t state φ, slots_are) k.three)

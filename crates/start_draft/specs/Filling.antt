@@ -1,25 +1,24 @@
 -- The draft of the start: each word of the table as the combination of its states.
-use Rattle.std.specs.Prelude.{ℕ, ◌+◌, ◌*◌, ◌<◌, ◌≤◌, ◌≡◌, true, List, length}
-use Rattle.refusals.specs.declared.Outcome.TheVariants.{Accepted}
+use Rattle.std.specs.Prelude.{ℕ, ◌+◌, ◌*◌, ◌<◌, ◌≤◌, ◌≡◌, true, List, length, None}
+use Rattle.std.specs.Prelude.{Ok}
 use Rattle.logic.specs.Formula.{Formula}
 use Rattle.table.specs.Checks.{checked}
-use Rattle.slots.specs.Slot.{pack}
 use Rattle.automata_laws.specs.StateClass.{every}
 use Rattle.automata_laws.specs.FormulaAutomaton.{combination}
 use Rattle.state_classes.specs.Kept.{word_of, Kept}
 use Rattle.drafts.specs.Drafted.{Drafted}
 use Rattle.source.specs.Source.{Inside}
-use Rattle.state_slots.specs.Slots.{class_slots}
+use Rattle.state_slots.specs.Slots.{state_slot, class_slots}
 use Rattle.word_states.specs.declared.Held.{Held}
 use Rattle.word_states.specs.States.{shown}
 
 -- the slots of a proper word
 abbrev pub state_slots : List ℕ → ℕ → Held → List ℕ
-state_slots d j h = class_slots d (3 * j) h.sigma h.pi h.further (pack 3 0 h.first) (pack 3 0 h.second) (pack 3 0 h.second)
+state_slots d j h = class_slots d (3 * j) (state_slot h.sigma) (state_slot h.pi) None
 
 -- an accepted table, what is kept of it, and a draft with slots for its words
 pub record Room (t bytes starts d : List ℕ) : Type 0 where
-  pub accepted : checked true 16383 t ≡ Accepted
+  pub accepted : checked true 16383 t ≡ Ok tt
   pub kept : Kept t bytes starts
   pub slots : 3 * length t + 3 ≤ length d
   pub few : length d ≤ 1048576

@@ -7,6 +7,7 @@ ghost use Rattle.word_states.specs.States.{Small};
 ghost use Rattle.start_draft.specs.Filling.{state_slots, Room, Filled, Next};
 
 use slots::slot;
+use state_slots::of_state;
 use word_states::Held;
 
 // A proper word.
@@ -14,9 +15,9 @@ fn states(draft: &mut [u64], j: usize, h: Held)
     requires { (3 * j + 2 < length draft.old) × (j < 16384) × Small h }
     ensures { draft.new ≡ state_slots draft.old j h }
 {
-    let x = slot::pack(3, 0, h.first);
-    let y = slot::pack(3, 0, h.second);
-    state_slots::put(draft, 3 * j, h.sigma, h.pi, h.further, x, y, y)
+    let x = of_state(h.sigma);
+    let y = of_state(h.pi);
+    state_slots::put(draft, 3 * j, x, y, None)
 }
 
 // Word j, after those before it.
@@ -48,9 +49,7 @@ pub fn fill(words: &[u32], bytes: &[u8], starts: &[u16], draft: &mut [u64])
     requires { Room words.now bytes.now starts.now draft.old }
     ensures { Filled words.now draft.new (length words.now) }
 {
-    let mut j = 0;
-    while j < words.len() {
-        j += 1;
+    for j in 1..=words.len() {
         step_word(words, bytes, starts, &mut *draft, j);
     }
 }

@@ -11,7 +11,7 @@ use lib.Seq.{get_or-set_same, get_or-set_other}
 use lib.Dec.{T}
 use Rattle.logic.specs.Formula.{Formula}
 use Rattle.logic.specs.ClassByte.{class_byte}
-use Rattle.refusals.specs.declared.Outcome.TheVariants.{Accepted}
+use Rattle.std.specs.Prelude.{Ok}
 use Rattle.table.specs.Node.{kind}
 use Rattle.table.specs.Checks.{checked}
 use Rattle.table.specs.Table.{formulas, formula_of}
@@ -30,7 +30,7 @@ use Rattle.state_numbers.specs.Numbered.{Classed, states_before, Started, Number
 use Rattle.state_numbers.proofs.States.{before_none, before_more, before_all, map_at, state_at_lem, proper-word, number_is}
 
 -- the bytes that are filled
-pub bytes_classed : (t bytes filled : List ℕ) → checked true 16383 t ≡ Accepted → length t ≤ length bytes → filled ≡ class_bytes t ++ drop (length t) bytes → Classed t filled
+pub bytes_classed : (t bytes filled : List ℕ) → checked true 16383 t ≡ Ok tt → length t ≤ length bytes → filled ≡ class_bytes t ++ drop (length t) bytes → Classed t filled
 unfolding formula_of
 bytes_classed t bytes filled ok h e = record {
   accepted = ok;

@@ -10,7 +10,7 @@ use lib.Seq.{take-suc, take_all, length-take-le, get_or-append-add}
 use lib.Dec.{T}
 use Rattle.logic.specs.Formula.{Formula, const}
 use Rattle.logic.specs.ClassByte.{class_byte}
-use Rattle.refusals.specs.declared.Outcome.TheVariants.{Accepted}
+use Rattle.std.specs.Prelude.{Ok}
 use Rattle.table.specs.Node.{kind}
 use Rattle.table.specs.Checks.{checked}
 use Rattle.table.specs.Table.{formulas, formula_of}
@@ -126,7 +126,7 @@ module _ (t : List ℕ) where
       omega (arith, before_rises i (length t - i) (omega arith), before_all, ap (states_before t) e)
 
 -- of an accepted plain table
-module _ (t : List ℕ) (ok : checked true 16383 t ≡ Accepted) where
+module _ (t : List ℕ) (ok : checked true 16383 t ≡ Ok tt) where
   well : WellFormed true 16383 t
   well = accepted-well-formed true 16383 t ok
 

@@ -1,7 +1,7 @@
 -- How states are numbered with what is kept of a table's words, and the word and the class of a state.
 use Rattle.std.specs.Prelude.{ℕ, suc, pred, ◌≤◌, ◌<◌, ◌≡◌, true, List, length, get_or, take, T}
 use Rattle.logic.specs.ClassByte.{class_byte}
-use Rattle.refusals.specs.declared.Outcome.TheVariants.{Accepted}
+use Rattle.std.specs.Prelude.{Ok}
 use Rattle.table.specs.Checks.{checked}
 use Rattle.table.specs.Table.{formulas}
 use Rattle.automata_laws.specs.StateClass.{StateClass, class_bit, is_smallest}
@@ -11,7 +11,7 @@ use Rattle.state_classes.specs.Kept.{word_of, Kept}
 
 -- accepted plain words, with the class byte of each
 pub record Classed (t bytes : List ℕ) : Type 0 where
-  pub accepted : checked true 16383 t ≡ Accepted
+  pub accepted : checked true 16383 t ≡ Ok tt
   pub bytes_long : length t ≤ length bytes
   pub byte : (i : ℕ) → i < length t → get_or bytes i 0 ≡ class_byte (word_of t (suc i))
 
@@ -30,7 +30,7 @@ pub record Numbered (t bytes starts : List ℕ) : Type 0 where
 
 -- accepted plain words, and room for what is kept of them
 pub record Room (t bytes starts : List ℕ) : Type 0 where
-  pub accepted : checked true 16383 t ≡ Accepted
+  pub accepted : checked true 16383 t ≡ Ok tt
   pub bytes_long : length t ≤ length bytes
   pub starts_long : length t < length starts
 

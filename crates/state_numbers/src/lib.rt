@@ -22,11 +22,9 @@ fn number(words: &[u32], bytes: &[u8], starts: &mut [u16]) -> usize
     ensures { (result ≡ length (state_words words.now)) × Started words.now starts.new }
 {
     let mut total: usize = 0;
-    let mut i = 0;
-    while i < words.len() {
+    for (i, word) in words.iter().enumerate() {
         starts[i + 1] = total as u16;
-        total += state_classes::count(word::kind(words[i]), bytes[i]);
-        i += 1;
+        total += state_classes::count(word::kind(*word), bytes[i]);
     }
     total
 }

@@ -5,9 +5,13 @@ use mathlib.Core.Path.{◌≡◌, refl}
 use mathlib.Core.Bool.{Bool, true, false, cond}
 use mathlib.Core.List.{List}
 use lib.ListN.{length}
+use Rattle.std.specs.Prelude.{Some}
+use Rattle.std.specs.Bool.{then_some}
+use Rattle.std.specs.Option.{option_and}
 use Rattle.logic.specs.Formula.{Formula, const, bin, disj}
+use Rattle.slots.specs.Slot.{pack}
 use Rattle.drafts.specs.Drafted.{Drafted}
-use Rattle.state_slots.specs.Slots.{class_slots}
+use Rattle.state_slots.specs.Slots.{state_slot, class_slots}
 use Rattle.state_slots.proofs.Standing.{Stands, first_drafted, second-drafted, three-drafted, apart-drafted}
 
 -- the formula of a class that holds the word, and of those that there are
@@ -23,9 +27,18 @@ pub record Classed (e : List ℕ) (i : ℕ) (first second third : Bool) (φ ψ �
   pub two : Drafted e (given second ψ) (i + 1)
   pub three : Drafted e (joined first second third φ ψ χ) (i + 2)
 
+-- what is made of a number that is given, and a slot in its place
+pub given_state : (b : Bool) (n : ℕ) → state_slot (then_some b n) ≡ then_some b (pack 3 0 n)
+given_state true n = refl
+given_state false n = refl
+
+pub given_other : (b : Bool) (n x : ℕ) → option_and (then_some b n) (Some x) ≡ then_some b x
+given_other true n x = refl
+given_other false n x = refl
+
 pub classed : (d : List ℕ) (i : ℕ) (first second third : Bool) (x y z : ℕ) (φ ψ χ : Formula) → i + 2 < length d
     → (first ≡ true → Stands d i x φ) → (second ≡ true → Stands d i y ψ) → (first ≡ false → second ≡ false → third ≡ true → Stands d i z χ)
-    → Classed (class_slots d i first second third x y z) i first second third φ ψ χ
+    → Classed (class_slots d i (then_some first x) (then_some second y) (then_some third z)) i first second third φ ψ χ
 classed d i true true c x y z φ ψ χ h p q r =
     let one = first_drafted d i x y 0 φ ψ χ h (p refl) (q refl) in
     let two = second-drafted d i x y 0 φ ψ χ h (p refl) (q refl) in

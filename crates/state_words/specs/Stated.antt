@@ -1,13 +1,13 @@
 -- The states of words, and of one word, as words in a slice.
 use Rattle.std.specs.Prelude.{ℕ, ◌+◌, ◌≤◌, ◌≡◌, true, List, ◌++◌, length, take, drop}
-use Rattle.refusals.specs.declared.Outcome.TheVariants.{Accepted}
+use Rattle.std.specs.Prelude.{Ok}
 use Rattle.table.specs.Checks.{checked}
 use Rattle.automata_tables.specs.States.{state_words}
 use Rattle.state_classes.specs.Classes.{own_words}
 
 -- accepted plain words, and room for their class bytes
 pub record Space (t bytes : List ℕ) : Type 0 where
-  pub accepted : checked true 16383 t ≡ Accepted
+  pub accepted : checked true 16383 t ≡ Ok tt
   pub bytes_long : length t ≤ length bytes
 
 -- there are n states, and where they fit, they stand at the front

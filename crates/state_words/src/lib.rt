@@ -22,10 +22,8 @@ fn write_all(words: &[u32], bytes: &[u8], res: &mut [u32]) -> usize
     ensures { Stated words.now res.old res.new result }
 {
     let mut made: usize = 0;
-    let mut i = 0;
-    while i < words.len() {
-        made += put(word::kind(words[i]), bytes[i], i + 1, made, &mut *res);
-        i += 1;
+    for (i, word) in words.iter().enumerate() {
+        made += put(word::kind(*word), bytes[i], i + 1, made, &mut *res);
     }
     made
 }
@@ -39,10 +37,8 @@ fn put(kind: u32, byte: u8, number: usize, at: usize, res: &mut [u32]) -> usize
     if res.len() < at + count {
         return count;
     }
-    let mut k = 0;
-    while k < count {
+    for k in 0..count {
         res[at + k] = state_word(state_classes::class_at(byte, k), number);
-        k += 1;
     }
     count
 }

@@ -1,18 +1,18 @@
--- Words placed one after the other: parts joined by or, and an answer of 0 passed on.
-use Prim.Native.Nat.{ℕ, zero, suc, ◌<◌}
+-- Words placed one after the other: parts joined by or, and that there is no room passed on.
+use Prim.Native.Nat.{ℕ, ◌<◌}
 use native.Mathlib.Omega.{arith}
-use mathlib.Core.Path.{◌≡◌, refl, sym, subst, subst₂}
+use mathlib.Core.Path.{◌≡◌, refl, sym, subst}
 use mathlib.Core.Bool.{Bool, false}
 use Rattle.logic.specs.Formula.{Formula, const, lit, un, bin, disj}
 use Rattle.transforms.specs.Folding.{Fold, stands, by_constant, on_left, on_right, fold_binary}
 use Rattle.table.specs.Node.{pack, binary_kind}
 use Rattle.table.specs.Numbering.{put, build}
 use Rattle.numbering.proofs.Building.{Grows, grows_trans, put-grows, build-grows, build-bin}
-use Rattle.placing.specs.State.{State, written, Numbered, Placing, Putting}
+use Rattle.placing.specs.State.{State, written, Placing, Putting}
 use Rattle.placing.proofs.Placing.{placing-written, placing-answer, placing-full, placing-grows, placing-reached, placing_on, build-positive}
-use Rattle.sums.specs.declared.Sum.{Sum}
-use Rattle.sums.specs.declared.Sum.TheVariants.{Nothing, Full, At}
-use Rattle.sums.specs.Summed.{at_of, Standing, Small, Summed, Grown}
+use Rattle.std.specs.Prelude.{Option, Some, None}
+use Rattle.table.specs.Answers.{OrNone, or_zero}
+use Rattle.sums.specs.Summed.{Sum, at_of, Standing, SmallOr, Summed, SummedOr, Grown}
 
 pub placing_small : {s e : State} {p : _} {r : ℕ} → Placing s e p r → r < 16384
 placing_small q = omega (arith, q.within, q.numbered.within)
@@ -58,38 +58,51 @@ false_or : (φ : Formula) → fold_binary disj (const false) φ ≡ φ
 unfolding fold_binary
 false_or φ = refl
 
--- the number that was answered for a formula
-pub at_number : {s₀ e : State} (φ : Formula) (r : ℕ) → Standing φ → Placing s₀ e (build (written s₀) φ) r → Summed s₀ e φ (at_of r)
-at_number φ zero h p = (h, p)
-at_number φ (suc r) h p = (h, omega arith, p)
+-- what is said of a number or none holds of the number that stands for it
+pub of_or : (P : ℕ → Type 0) (r : Option ℕ) → OrNone P r → P (or_zero r)
+of_or P None p = p
+of_or P (Some n) p = p.1
 
-pub at_small : (r : ℕ) → r < 16384 → Small (at_of r)
-at_small zero h = tt
-at_small (suc r) h = h
+-- the number that was answered for a formula
+pub at_number : (s₀ e : State) (φ : Formula) (r : Option ℕ) → Standing φ → OrNone (λ n. Placing s₀ e (build (written s₀) φ) n) r → SummedOr s₀ e φ (at_of r)
+at_number s₀ e φ None h p = (h, p)
+at_number s₀ e φ (Some r) h p = (h, p.0, p.1)
+
+pub at_small : (r : Option ℕ) → or_zero r < 16384 → SmallOr (at_of r)
+at_small None h = tt
+at_small (Some r) h = h
 
 -- a formula that is no constant, joined to each sum
 module _ (φ : Formula) (st : Standing φ) {s : State} where
-  pub join-full : Numbered s → Grown (λ χ. fold_binary disj χ φ) s s Full Full
-  join-full h = record { numbered = h; small = tt; sums = λ s₀ χ p. rw (or_stands χ φ p.0 st) (tt, placing_left_full χ φ p.1 refl) }
+  pub join-nothing : {e : State} (r : Option ℕ) → OrNone (λ n. Placing s e (build (written s) φ) n) r → Grown (λ χ. fold_binary disj χ φ) s e None (at_of r)
+  join-nothing {e} r q =
+      let k = of_or (λ n. Placing s e (build (written s) φ) n) r q in
+      record {
+        numbered = k.numbered;
+        small = at_small r (placing_small k);
+        sums = λ s₀ χ p. rw (p.0, false_or φ) (at_number s₀ e φ r st (subst (λ (x : State). OrNone (λ n. Placing x e (build (written x) φ) n) r) p.1 q));
+      }
 
-  pub join-nothing : {e : State} {r : ℕ} → Placing s e (build (written s) φ) r → Grown (λ χ. fold_binary disj χ φ) s e Nothing (at_of r)
-  join-nothing {e} {r} q = record {
-    numbered = q.numbered;
-    small = at_small r (placing_small q);
-    sums = λ s₀ χ p. rw (p.0, false_or φ) (at_number φ r st (subst (λ (x : State). Placing x e (build (written x) φ) r) p.1 q));
-  }
+  -- no room for the formula
+  pub join_no_room : (a : Sum) {m : State} → Placing s m (build (written s) φ) 0 → Grown (λ χ. fold_binary disj χ φ) s m a None
+  join_no_room None q = join-nothing None q
+  join_no_room (Some n) q = record { numbered = q.numbered; small = tt; sums = λ s₀ χ p. rw (or_stands χ φ p.0 st) (tt, placing_right_full χ φ p.2 p.1 q refl) }
 
-  module _ (n : ℕ) {m : State} {b : ℕ} (q : Placing s m (build (written s) φ) b) where
-    pub join_no_room : b ≡ 0 → Grown (λ χ. fold_binary disj χ φ) s m (At n) Full
-    join_no_room z = record { numbered = q.numbered; small = tt; sums = λ s₀ χ p. rw (or_stands χ φ p.0 st) (tt, placing_right_full χ φ p.2 p.1 q z) }
+  module _ (n : ℕ) {m : State} {b : ℕ} (g : 0 < b) (q : Placing s m (build (written s) φ) b) where
+    both : (s₀ e : State) (w : ℕ) (χ : Formula) → Summed s₀ s χ (Some n) → w ≡ pack (binary_kind disj) n b → (r : Option ℕ)
+        → OrNone (λ i. Putting m e (put (written m) w) i) r → OrNone (λ i. Placing s₀ e (build (written s₀) (bin disj χ φ)) i) r
+    both s₀ e w χ p z None k = placing_both χ φ p.2 p.1 q g (rw z at k)
+    both s₀ e w χ p z (Some i) k = (k.0, placing_both χ φ p.2 p.1 q g (rw z at k.1))
 
-    pub join_at : (b ≡ 0 → ⊥) → {e : State} {w r : ℕ} → w ≡ pack (binary_kind disj) n b → Putting m e (put (written m) w) r → Grown (λ χ. fold_binary disj χ φ) s e (At n) (at_of r)
-    join_at y {r = r} z k = record {
-      numbered = k.placed.numbered;
-      small = at_small r (placing_small k.placed);
-      sums = λ s₀ χ p. rw (or_stands χ φ p.0 st) (at_number (bin disj χ φ) r tt (placing_both χ φ p.2 p.1 q (omega (arith, y)) (rw z at k)));
-    }
+    pub join_at : {e : State} {w : ℕ} (r : Option ℕ) → w ≡ pack (binary_kind disj) n b → OrNone (λ i. Putting m e (put (written m) w) i) r → Grown (λ χ. fold_binary disj χ φ) s e (Some n) (at_of r)
+    join_at {e} {w} r z k =
+        let l = of_or (λ i. Putting m e (put (written m) w) i) r k in
+        record {
+          numbered = l.placed.numbered;
+          small = at_small r (placing_small l.placed);
+          sums = λ s₀ χ p. rw (or_stands χ φ p.0 st) (at_number s₀ e (bin disj χ φ) r tt (both s₀ e w χ p z r k));
+        }
 
--- the same sums under other names
-pub grown_as : {g : Formula → Formula} {s e : State} {a b r q : Sum} → a ≡ b → r ≡ q → Grown g s e b q → Grown g s e a r
-grown_as {g} {s} {e} x y h = subst₂ (λ (a r : Sum). Grown g s e a r) (sym x) (sym y) h
+-- the same sum under another name
+pub grown_as : {g : Formula → Formula} {s e : State} {a b : Sum} {r : Option Sum} → a ≡ b → Grown g s e b r → Grown g s e a r
+grown_as {g} {s} {e} {r = r} x h = subst (λ (a : Sum). Grown g s e a r) (sym x) h

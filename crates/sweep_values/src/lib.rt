@@ -18,6 +18,7 @@ pub fn value_at(g: &[u64], p: &[u64], positions: usize, from: usize, end: bool) 
         → p.now ≡ rows.row positions P
         → result ≡ sweep G P end from (positions - from) }
 {
+    // A `while`: the first word may begin in its middle, and `from` may stand at the rows' end.
     let mut i = from;
     while i < positions {
         let w = i / 64;
@@ -27,11 +28,10 @@ pub fn value_at(g: &[u64], p: &[u64], positions: usize, from: usize, end: bool) 
         if first(g[w] >> k, kept, false, n) {
             return true;
         }
-        if kept == ones(n) {
-            i = w * 64 + 64;
-        } else {
+        if kept != ones(n) {
             return false;
         }
+        i = w * 64 + 64;
     }
     end
 }

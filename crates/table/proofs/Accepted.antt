@@ -10,7 +10,7 @@ use lib.Seq.{get_or-take, length-take-le}
 use lib.Dec.{eqb}
 use borrow.Author.Tests.{ltb-false, leb-false, eqb-true, eqb-false, le-ltb, lt-leb, ne_eqb, eq-eqb, not-false}
 use Rattle.refusals.specs.declared.Refusal.{Refusal}
-use Rattle.refusals.specs.declared.Outcome.TheVariants.{Accepted}
+use Rattle.std.specs.Prelude.{Ok}
 use Rattle.refusals.specs.Refusals.{first, number_of}
 use Rattle.logic.specs.Formula.{const}
 use Rattle.table.specs.Node.{kind, left, right, shape}
@@ -65,7 +65,7 @@ eqb_of_pos : (n : ℕ) → 0 < n → eqb n 0 ≡ false
 eqb_of_pos n h = ne_eqb n 0 (λ e. omega arith)
 
 word-well-formed : (plain_only : Bool) (earlier : List ℕ) (n w : ℕ)
-    → first (word_checks plain_only earlier n w) ≡ Accepted → WellFormedWord plain_only earlier n w
+    → first (word_checks plain_only earlier n w) ≡ Ok tt → WellFormedWord plain_only earlier n w
 unfolding word_checks
 word-well-formed plain_only earlier n w e =
     let p : Passed (word_checks plain_only earlier n w) = first_passed (word_checks plain_only earlier n w) e in
@@ -85,7 +85,7 @@ word-well-formed plain_only earlier n w e =
     }
 
 word_checks-accepted : (plain_only : Bool) (earlier : List ℕ) (n w : ℕ)
-    → WellFormedWord plain_only earlier n w → first (word_checks plain_only earlier n w) ≡ Accepted
+    → WellFormedWord plain_only earlier n w → first (word_checks plain_only earlier n w) ≡ Ok tt
 unfolding word_checks
 word_checks-accepted plain_only earlier n w f =
     passed_first (word_checks plain_only earlier n w) (
@@ -126,7 +126,7 @@ next_place : (earlier : List ℕ) (w j : ℕ) → suc (length (earlier ++ (w ∷
 next_place earlier w j = omega (arith, length-append earlier (w ∷ []))
 
 words-well-formed : (plain_only : Bool) (earlier ws : List ℕ)
-    → first (words_checks plain_only earlier ws) ≡ Accepted → WordsFrom plain_only earlier ws
+    → first (words_checks plain_only earlier ws) ≡ Ok tt → WordsFrom plain_only earlier ws
 unfolding words_checks WordsFrom
 words-well-formed plain_only earlier [] e j h = absurd (omega arith)
 words-well-formed plain_only earlier (w ∷ ws) e zero h =
@@ -137,7 +137,7 @@ words-well-formed plain_only earlier (w ∷ ws) e (suc j) h =
     renamed (append_assoc earlier (w ∷ []) (take j ws)) (next_place earlier w j) (words-well-formed plain_only (earlier ++ (w ∷ [])) ws both.1 j (omega arith))
 
 words_checks-accepted : (plain_only : Bool) (earlier ws : List ℕ)
-    → WordsFrom plain_only earlier ws → first (words_checks plain_only earlier ws) ≡ Accepted
+    → WordsFrom plain_only earlier ws → first (words_checks plain_only earlier ws) ≡ Ok tt
 unfolding words_checks WordsFrom
 words_checks-accepted plain_only earlier [] f = refl
 words_checks-accepted plain_only earlier (w ∷ ws) f =
@@ -147,26 +147,26 @@ words_checks-accepted plain_only earlier (w ∷ ws) f =
           (λ j h. renamed (sym (append_assoc earlier (w ∷ []) (take j ws))) (sym (next_place earlier w j)) (f (suc j) (omega arith))),
     )
 
-uses-well-formed : (t : List ℕ) (n k : ℕ) → first (use_checks t n k) ≡ Accepted → (i : ℕ) → i < k → used (n + i) t ≡ true
+uses-well-formed : (t : List ℕ) (n k : ℕ) → first (use_checks t n k) ≡ Ok tt → (i : ℕ) → i < k → used (n + i) t ≡ true
 unfolding use_checks
 uses-well-formed t n zero e i h = absurd (omega arith)
 uses-well-formed t n (suc k) e zero h = rw (add-zero n) (not-false _ (first_passed (use_checks t n (suc k)) e).0)
 uses-well-formed t n (suc k) e (suc i) h =
-    let rest : first (use_checks t (suc n) k) ≡ Accepted = passed_first (use_checks t (suc n) k) (first_passed (use_checks t n (suc k)) e).1 in
+    let rest : first (use_checks t (suc n) k) ≡ Ok tt = passed_first (use_checks t (suc n) k) (first_passed (use_checks t n (suc k)) e).1 in
     let place : n + suc i ≡ suc n + i = omega arith in
     rw place (uses-well-formed t (suc n) k rest i (omega arith))
 
-use_checks-accepted : (t : List ℕ) (n k : ℕ) → ((i : ℕ) → i < k → used (n + i) t ≡ true) → first (use_checks t n k) ≡ Accepted
+use_checks-accepted : (t : List ℕ) (n k : ℕ) → ((i : ℕ) → i < k → used (n + i) t ≡ true) → first (use_checks t n k) ≡ Ok tt
 unfolding use_checks
 use_checks-accepted t n zero f = refl
 use_checks-accepted t n (suc k) f =
     let here : used n t ≡ true = rw add-zero at (f zero (omega arith)) in
-    let rest : first (use_checks t (suc n) k) ≡ Accepted =
+    let rest : first (use_checks t (suc n) k) ≡ Ok tt =
     use_checks-accepted t (suc n) k (λ i h. let place : suc n + i ≡ n + suc i = omega arith in rw place (f (suc i) (omega arith))) in
     passed_first (use_checks t n (suc k)) (ap not here, first_passed (use_checks t (suc n) k) rest)
 
 -- acceptance gives a well-formed table
-pub accepted-well-formed : (plain_only : Bool) (limit : ℕ) (t : List ℕ) → checked plain_only limit t ≡ Accepted → WellFormed plain_only limit t
+pub accepted-well-formed : (plain_only : Bool) (limit : ℕ) (t : List ℕ) → checked plain_only limit t ≡ Ok tt → WellFormed plain_only limit t
 unfolding checked table_checks WordsFrom
 accepted-well-formed plain_only limit t e =
     let p : Passed (table_checks plain_only limit t) = first_passed (table_checks plain_only limit t) e in
@@ -181,16 +181,16 @@ accepted-well-formed plain_only limit t e =
     }
 
 -- so a plain table of the steps that take any has at most 16,383 words
-pub table-few : (t : List ℕ) → checked true 16383 t ≡ Accepted → length t ≤ 16383
+pub table-few : (t : List ℕ) → checked true 16383 t ≡ Ok tt → length t ≤ 16383
 table-few t e = (accepted-well-formed true 16383 t e).few
 
 -- and a well-formed table is accepted
-pub well-formed-accepted : (plain_only : Bool) (limit : ℕ) (t : List ℕ) → WellFormed plain_only limit t → checked plain_only limit t ≡ Accepted
+pub well-formed-accepted : (plain_only : Bool) (limit : ℕ) (t : List ℕ) → WellFormed plain_only limit t → checked plain_only limit t ≡ Ok tt
 unfolding checked table_checks WordsFrom
 well-formed-accepted plain_only limit t f =
-    let words : first (words_checks plain_only [] t) ≡ Accepted =
+    let words : first (words_checks plain_only [] t) ≡ Ok tt =
     words_checks-accepted plain_only [] t (λ j h. renamed refl (ap suc (sym (zero-add j))) (f.word j h)) in
-    let uses : first (use_checks t 1 (length t - 1)) ≡ Accepted = use_checks-accepted t 1 (length t - 1) (λ i h. f.all_used (1 + i) (omega arith) (omega arith)) in
+    let uses : first (use_checks t 1 (length t - 1)) ≡ Ok tt = use_checks-accepted t 1 (length t - 1) (λ i h. f.all_used (1 + i) (omega arith) (omega arith)) in
     let rest = (first_append_both (words_checks plain_only [] t) (use_checks t 1 (length t - 1))).1 (words, uses) in
     passed_first (table_checks plain_only limit t)
     (eqb_of_pos (length t) f.some, (le-ltb limit (length t) f.few, first_passed (words_checks plain_only [] t ++ use_checks t 1 (length t - 1)) rest))

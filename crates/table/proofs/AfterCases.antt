@@ -7,7 +7,7 @@ use Rattle.logic.specs.Lasso.{letter_in}
 use Rattle.transforms.specs.Folding.{fold, fold_unary, fold_binary}
 use Rattle.transforms.specs.After.{after}
 use Rattle.refusals.specs.declared.Refusal.TheVariants.{LetterNotDriven, TooManyDriven}
-use Rattle.refusals.specs.declared.Outcome.TheVariants.{Refused}
+use Rattle.std.specs.Prelude.{Err}
 use Rattle.refusals.specs.Refusals.{first}
 use Rattle.table.specs.Node.{kind, left, right, pack, shape}
 use Rattle.table.specs.Table.{formula_of, word_formula, formulas_after, formulas, rule}
@@ -37,10 +37,10 @@ unfolding after_table rule formulas formulas_after word_formula formula_of kind 
 steady = refl
 
 -- 22 before 21, which is at the lowest word that names a letter that is not driven
-both : first (sample_checks 33 (0x30000022 ∷ [])) ≡ Refused TooManyDriven
+both : first (sample_checks 33 (0x30000022 ∷ [])) ≡ Err TooManyDriven
 unfolding driven_checks
 both = refl
 
-lowest : first (sample_checks 1 reach) ≡ Refused (LetterNotDriven 2)
+lowest : first (sample_checks 1 reach) ≡ Err (LetterNotDriven 2)
 unfolding driven_checks letter_checks kind right shape
 lowest = refl

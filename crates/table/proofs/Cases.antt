@@ -23,8 +23,8 @@ use Rattle.logic.specs.Truth.{truth, sweep}
 use Rattle.logic.proofs.Tests.{T_and, T-beq, all_pass, pass_at}
 use Rattle.logic.proofs.Lasso.Truth.{truth-holds}
 use Rattle.table.specs.Node.{kind, left, right, pack, shape}
-use Rattle.refusals.specs.declared.Outcome.{Outcome}
-use Rattle.refusals.specs.declared.Outcome.TheVariants.{Accepted, Refused}
+use Rattle.refusals.specs.Refusals.{Outcome}
+use Rattle.std.specs.Prelude.{Ok, Err}
 use Rattle.refusals.specs.Refusals.{number_of, place_of, first}
 use Rattle.table.specs.Table.{formula_of, word_formula, formulas_after, formulas, rule}
 use Rattle.table.specs.Checks.{occurs, word_checks, words_checks, uses, used, use_checks}
@@ -48,23 +48,23 @@ same_list_lem (x ∷ xs) [] h = absurd h
 same_list_lem (x ∷ xs) (y ∷ ys) h = ap₂ ◌∷◌ (eqb→eq x y ((T_and (eqb x y) (same_list xs ys)).0 h).0) (same_list_lem xs ys ((T_and (eqb x y) (same_list xs ys)).0 h).1)
 
 is_refusal : Outcome → ℕ → ℕ → Bool
-is_refusal Accepted n p = false
-is_refusal (Refused r) n p = eqb (number_of r) n && eqb (place_of r) p
+is_refusal (Ok tt) n p = false
+is_refusal (Err r) n p = eqb (number_of r) n && eqb (place_of r) p
 
 is_refusal_lem : (o : Outcome) (n p : ℕ) → T (is_refusal o n p) → IsRefusal o n p
 unfolding is_refusal
-is_refusal_lem Accepted n p h = h
-is_refusal_lem (Refused r) n p h = (eqb→eq _ _ ((T_and (eqb (number_of r) n) _).0 h).0, eqb→eq _ _ ((T_and (eqb (number_of r) n) _).0 h).1)
+is_refusal_lem (Ok tt) n p h = h
+is_refusal_lem (Err r) n p h = (eqb→eq _ _ ((T_and (eqb (number_of r) n) _).0 h).0, eqb→eq _ _ ((T_and (eqb (number_of r) n) _).0 h).1)
 
 is_accepted : Outcome → Bool
-is_accepted Accepted = true
-is_accepted (Refused r) = false
+is_accepted (Ok tt) = true
+is_accepted (Err r) = false
 
 -- a table that is accepted, and the rest of its row
-both_pass : (o : Outcome) (b : Bool) {P : Type 0} → (T b → P) → T (is_accepted o && b) → (o ≡ Accepted) × P
+both_pass : (o : Outcome) (b : Bool) {P : Type 0} → (T b → P) → T (is_accepted o && b) → (o ≡ Ok tt) × P
 unfolding is_accepted
-both_pass Accepted b f h = (refl, f h)
-both_pass (Refused r) b f h = absurd h
+both_pass (Ok tt) b f h = (refl, f h)
+both_pass (Err r) b f h = absurd h
 
 -- a sequence begins, from k on, with the listed values
 matches : (ℕ → Bool) → ℕ → List Bool → Bool

@@ -9,7 +9,7 @@ use borrow.Author.Tests.{eqb-true, eq-eqb, not-false}
 use Rattle.logic.proofs.Hierarchy.ClassBit.{class_byte_lt}
 use Rattle.refusals.specs.declared.Refusal.{Refusal}
 use Rattle.refusals.specs.declared.Refusal.TheVariants.{HeaderWrong}
-use Rattle.refusals.specs.declared.Outcome.TheVariants.{Accepted, Refused}
+use Rattle.std.specs.Prelude.{Ok, Err}
 use Rattle.refusals.specs.Refusals.{◌⇒◌, number_of}
 use Rattle.refusals.proofs.First.{first_passed, passed_first, first_append_both, all_refusals_append, all_refusals_map, first_refusal}
 use Rattle.table.specs.Node.{kind, left, right}
@@ -55,11 +55,11 @@ module _ (t : List ℕ) (few : length t < 2 ^ 14) where
 
 -- what acceptance tells of a table with its header
 pub record Headed (plain_only : Bool) (limit : ℕ) (s : List ℕ) : Type 0 where
-  pub words : checked plain_only limit (body s) ≡ Accepted
+  pub words : checked plain_only limit (body s) ≡ Ok tt
   pub whole : s ≡ headed (body s)
 
 module _ (plain_only : Bool) (limit : ℕ) where
-  pub accepted-headed : (s : List ℕ) → headed_checked plain_only limit s ≡ Accepted → Headed plain_only limit s
+  pub accepted-headed : (s : List ℕ) → headed_checked plain_only limit s ≡ Ok tt → Headed plain_only limit s
   unfolding headed_checked headed_checks checked table_checks right
   accepted-headed [] e = absurd (let z : ◌≡◌ {A = ℕ} 0 1 = cc in omega arith)
   accepted-headed (w ∷ t) e =
@@ -72,7 +72,7 @@ module _ (plain_only : Bool) (limit : ℕ) where
       }
 
   -- words that are accepted are accepted under their header
-  pub headed-accepted : (t : List ℕ) → limit ≤ 16383 → checked plain_only limit t ≡ Accepted → headed_checked plain_only limit (headed t) ≡ Accepted
+  pub headed-accepted : (t : List ℕ) → limit ≤ 16383 → checked plain_only limit t ≡ Ok tt → headed_checked plain_only limit (headed t) ≡ Ok tt
   unfolding headed_checked headed_checks checked table_checks
   headed-accepted t small e =
       let q = first_passed (table_checks plain_only limit t) e in
@@ -91,7 +91,7 @@ module _ (plain_only : Bool) (limit : ℕ) where
       )
 
   -- never for the length of a result
-  pub headed-refusal : (s : List ℕ) (r : Refusal) → headed_checked plain_only limit s ≡ Refused r → number_of r ≡ 12 → ⊥
+  pub headed-refusal : (s : List ℕ) (r : Refusal) → headed_checked plain_only limit s ≡ Err r → number_of r ≡ 12 → ⊥
   unfolding headed_checked headed_checks
   headed-refusal s r e =
       first_refusal (λ x. number_of x ≡ 12 → ⊥) (headed_checks plain_only limit s) r (

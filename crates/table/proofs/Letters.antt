@@ -12,7 +12,7 @@ use Rattle.logic.specs.Letters.{Letters}
 use Rattle.logic.specs.Driven.{Driven}
 use Rattle.refusals.specs.declared.Refusal.{Refusal}
 use Rattle.refusals.specs.declared.Refusal.TheVariants.{LetterNotDriven}
-use Rattle.refusals.specs.declared.Outcome.TheVariants.{Accepted, Refused}
+use Rattle.std.specs.Prelude.{Ok, Err}
 use Rattle.refusals.specs.Refusals.{first, decide_by}
 use Rattle.table.specs.Node.{Shape, none, constant, letter, unary, binary, kind, left, right, shape, left_field, right_field}
 use Rattle.table.specs.Table.{formulas, formula_of, formula_by}
@@ -66,14 +66,14 @@ module _ (P : ℕ → Type 0) where
 -- ---- check 21
 
 -- its place is the lowest word that names a letter above the count
-pub lowest : (k n : ℕ) (ws : List ℕ) (r : Refusal) → first (letter_checks k n ws) ≡ Refused r
+pub lowest : (k n : ℕ) (ws : List ℕ) (r : Refusal) → first (letter_checks k n ws) ≡ Err r
     → (i : ℕ) × (i < length ws) × (r ≡ LetterNotDriven (n + i)) × (is_undriven k (get_or ws i 0) ≡ true) × ((j : ℕ) → j < i → is_undriven k (get_or ws j 0) ≡ false)
 unfolding letter_checks
 lowest k n [] r e = absurd (let z : ◌≡◌ {A = ℕ} 0 1 = cc in omega arith)
 lowest k n (w ∷ ws) r e = go (is_undriven k w) refl e (lowest k (suc n) ws r)
   where
-    go : (b : Bool) → is_undriven k w ≡ b → decide_by b (LetterNotDriven n) (first (letter_checks k (suc n) ws)) ≡ Refused r
-        → (first (letter_checks k (suc n) ws) ≡ Refused r
+    go : (b : Bool) → is_undriven k w ≡ b → decide_by b (LetterNotDriven n) (first (letter_checks k (suc n) ws)) ≡ Err r
+        → (first (letter_checks k (suc n) ws) ≡ Err r
         → (i : ℕ) × (i < length ws) × (r ≡ LetterNotDriven (suc n + i)) × (is_undriven k (get_or ws i 0) ≡ true) × ((j : ℕ) → j < i → is_undriven k (get_or ws j 0) ≡ false))
         → (i : ℕ) × (i < suc (length ws)) × (r ≡ LetterNotDriven (n + i)) × (is_undriven k (get_or (w ∷ ws) i 0) ≡ true) × ((j : ℕ) → j < i → is_undriven k (get_or (w ∷ ws) j 0) ≡ false)
     go true u d rest = let same : r ≡ LetterNotDriven n = cc in (zero, omega arith, same ∙ ap LetterNotDriven (sym (add-zero n)), u, λ j h. absurd (omega arith))
@@ -91,14 +91,14 @@ lowest k n (w ∷ ws) r e = go (is_undriven k w) refl e (lowest k (suc n) ws r)
 abbrev pub WordsDriven : ℕ → List ℕ → Type 0
 WordsDriven k ws = (i : ℕ) → i < length ws → is_proposition (holds_right (get_or ws i 0)) ≡ true → right (get_or ws i 0) ≤ k
 
-pub words-driven : (k n : ℕ) (ws : List ℕ) → first (letter_checks k n ws) ≡ Accepted → WordsDriven k ws
+pub words-driven : (k n : ℕ) (ws : List ℕ) → first (letter_checks k n ws) ≡ Ok tt → WordsDriven k ws
 unfolding letter_checks
 words-driven k n [] e i h = absurd (omega arith)
 words-driven k n (w ∷ ws) e zero h = λ p. ltb-false k (right w) (and_false-second _ _ (first_passed (letter_checks k n (w ∷ ws)) e).0 p)
 words-driven k n (w ∷ ws) e (suc i) h =
     words-driven k (suc n) ws (passed_first (letter_checks k (suc n) ws) (first_passed (letter_checks k n (w ∷ ws)) e).1) i (omega arith)
 
-pub driven-words : (k n : ℕ) (ws : List ℕ) → WordsDriven k ws → first (letter_checks k n ws) ≡ Accepted
+pub driven-words : (k n : ℕ) (ws : List ℕ) → WordsDriven k ws → first (letter_checks k n ws) ≡ Ok tt
 unfolding letter_checks
 driven-words k n [] f = refl
 driven-words k n (w ∷ ws) f =
@@ -108,6 +108,6 @@ driven-words k n (w ∷ ws) f =
     )
 
 -- a table that 21 passes has formulas of driven letters alone
-pub formulas-driven : {plain_only : Bool} {limit : ℕ} {t : List ℕ} → WellFormed plain_only limit t → (k : ℕ) → first (letter_checks k 1 t) ≡ Accepted
+pub formulas-driven : {plain_only : Bool} {limit : ℕ} {t : List ℕ} → WellFormed plain_only limit t → (k : ℕ) → first (letter_checks k 1 t) ≡ Ok tt
     → (j : ℕ) → j ≤ length t → Letters (Driven k) (formula_of (formulas t) j)
 formulas-driven {t = t} f k e = formula-letters (Driven k) f (λ i h p. (((f.word i h).letter p).0, words-driven k 1 t e i h p))

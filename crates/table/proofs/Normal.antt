@@ -12,10 +12,9 @@ use Rattle.logic.specs.Hierarchy.{Δ₂}
 use Rattle.logic.specs.ClassByte.{class_byte}
 use Rattle.logic.proofs.Hierarchy.ClassBit.{class_bit}
 use Rattle.refusals.specs.declared.Refusal.{Refusal}
-use Rattle.refusals.specs.declared.Outcome.TheVariants.{Accepted}
 use Rattle.table.specs.declared.settings.Limits.{Limits}
-use Rattle.table.specs.declared.answer.Answer.{Answer}
-use Rattle.table.specs.declared.answer.Answer.TheVariants.{Made, Refused}
+use Rattle.table.specs.Answers.{Answer}
+use Rattle.std.specs.Prelude.{Ok, Err}
 use Rattle.table.specs.declared.answer.Form.TheVariants as form
 use Rattle.refusals.specs.Refusals.{first}
 use Rattle.table.specs.Node.{kind, left}
@@ -53,7 +52,7 @@ unfolding is_written
 unwritten [] h = refl
 unwritten (w ∷ t) h = rw (lt-leb 12 (kind w) (h 0 (omega arith))) (unwritten t (λ j b. h (suc j) (omega arith)))
 
-module _ (limit : ℕ) (small : limit < 2 ^ 14) (s : List ℕ) (e : headed_checked true limit s ≡ Accepted) where
+module _ (limit : ℕ) (small : limit < 2 ^ 14) (s : List ℕ) (e : headed_checked true limit s ≡ Ok tt) where
   -- a table of plain words has the class byte of its rule in its header
   pub normal-header : bit (left (header s)) 6 ≡ is_normal (body s)
   unfolding is_normal class_of header_of
@@ -79,19 +78,19 @@ module _ (l : Limits) (s : List ℕ) where
   other_makes n = ap (λ (b : Bool). cond b [] (headed (normal_table (body s)))) n
 
   -- the checks of an accepted table by permitted limits are those of its form
-  pub form-checked : is_permitted l ≡ true → headed_checked true (plain_limit l) s ≡ Accepted → first ((normal_step l).checks s) ≡ first (form_checks l (body s))
+  pub form-checked : is_permitted l ≡ true → headed_checked true (plain_limit l) s ≡ Ok tt → first ((normal_step l).checks s) ≡ first (form_checks l (body s))
   unfolding headed_checked
   form-checked p a = permitted-checks l (headed_checks true (plain_limit l) s ++ form_checks l (body s)) p ∙ first_append-accepted (headed_checks true (plain_limit l) s) (form_checks l (body s)) a
 
   -- of one that is its own form no words are made, and the slice keeps its own
-  module _ (slice : List ℕ) (p : is_permitted l ≡ true) (a : headed_checked true (plain_limit l) s ≡ Accepted) (n : is_normal (body s) ≡ true) where
-    passed : first ((normal_step l).checks s) ≡ Accepted
+  module _ (slice : List ℕ) (p : is_permitted l ≡ true) (a : headed_checked true (plain_limit l) s ≡ Ok tt) (n : is_normal (body s) ≡ true) where
+    passed : first ((normal_step l).checks s) ≡ Ok tt
     passed = form-checked p a ∙ ap first (own-checks n)
 
     nothing : result_fits (length ((normal_step l).makes s)) (length slice) ≡ true
     nothing = rw (own-makes n) (le-leb 0 (min (length slice) 16384) (omega arith))
 
-    pub own-answer : answer_of (normal_step l) s (length slice) ≡ Made 0
+    pub own-answer : answer_of (normal_step l) s (length slice) ≡ Ok 0
     own-answer = made_answer (normal_step l) s slice passed nothing ∙ rw (own-makes n) refl
 
     pub own-result : result_of (normal_step l) s slice ≡ slice
@@ -104,38 +103,38 @@ module _ (l : Limits) (s slice : List ℕ) where
     pub normal : is_normal (body s) ≡ true
     pub long : n ≡ length s
     pub permitted : is_permitted l ≡ true
-    pub accepted : headed_checked true (plain_limit l) s ≡ Accepted
+    pub accepted : headed_checked true (plain_limit l) s ≡ Ok tt
 
   -- it is not, and a form was made of it
   pub record Other (n : ℕ) : Type 0 where
     pub normal : is_normal (body s) ≡ false
     pub made : Answered (normal_step l) s slice n
 
-  pub form-source : (n : ℕ) → form_of l s (length slice) ≡ form.Source n → Own n
+  pub form-source : (n : ℕ) → form_of l s (length slice) ≡ Ok (form.Source n) → Own n
   unfolding form_of headed_checked
   form-source n f = go (answer_of (normal_step l) s (length slice)) (is_normal (body s)) refl refl f
     where
-      go : (a : Answer) (b : Bool) → answer_of (normal_step l) s (length slice) ≡ a → is_normal (body s) ≡ b → form_by a b (length s) ≡ form.Source n → Own n
-      go (Made m) true e b f =
+      go : (a : Answer) (b : Bool) → answer_of (normal_step l) s (length slice) ≡ a → is_normal (body s) ≡ b → form_by a b (length s) ≡ Ok (form.Source n) → Own n
+      go (Ok m) true e b f =
           let p = passed_limits l (headed_checks true (plain_limit l) s ++ form_checks l (body s)) (answered (normal_step l) s slice m e).accepted in
           record { normal = b; long = ap form_words (sym f); permitted = p.0; accepted = ((first_append_both (headed_checks true (plain_limit l) s) (form_checks l (body s))).0 p.1).0 }
-      go (Made m) false e b f = absurd (true≢false (sym (ap is_source f)))
-      go (Refused r) b e n f = absurd (true≢false (sym (ap is_source f)))
+      go (Ok m) false e b f = absurd (true≢false (sym (ap is_source f)))
+      go (Err r) b e n f = absurd (true≢false (sym (ap is_source f)))
 
-  pub form_made : (n : ℕ) → form_of l s (length slice) ≡ form.Made n → Other n
+  pub form_made : (n : ℕ) → form_of l s (length slice) ≡ Ok (form.Made n) → Other n
   unfolding form_of
   form_made n f = go (answer_of (normal_step l) s (length slice)) (is_normal (body s)) refl refl f
     where
-      go : (a : Answer) (b : Bool) → answer_of (normal_step l) s (length slice) ≡ a → is_normal (body s) ≡ b → form_by a b (length s) ≡ form.Made n → Other n
-      go (Made m) true e b f = absurd (true≢false (ap is_source f))
-      go (Made m) false e b f = record { normal = b; made = answered (normal_step l) s slice n (e ∙ ap Made (ap form_words f)) }
-      go (Refused r) b e n f = absurd (let z : ◌≡◌ {A = ℕ} 0 1 = cc in omega arith)
+      go : (a : Answer) (b : Bool) → answer_of (normal_step l) s (length slice) ≡ a → is_normal (body s) ≡ b → form_by a b (length s) ≡ Ok (form.Made n) → Other n
+      go (Ok m) true e b f = absurd (true≢false (ap is_source f))
+      go (Ok m) false e b f = record { normal = b; made = answered (normal_step l) s slice n (e ∙ ap Ok (ap form_words f)) }
+      go (Err r) b e n f = absurd (let z : ◌≡◌ {A = ℕ} 0 1 = cc in omega arith)
 
-  pub form-refused : (r : Refusal) → (form_of l s (length slice) ≡ form.Refused r) ↔ (answer_of (normal_step l) s (length slice) ≡ Refused r)
+  pub form-refused : (r : Refusal) → (form_of l s (length slice) ≡ Err r) ↔ (answer_of (normal_step l) s (length slice) ≡ Err r)
   unfolding form_of
   form-refused r = (go (answer_of (normal_step l) s (length slice)) (is_normal (body s)), λ e. ap (λ (a : Answer). form_by a (is_normal (body s)) (length s)) e)
     where
-      go : (a : Answer) (b : Bool) → form_by a b (length s) ≡ form.Refused r → a ≡ Refused r
-      go (Made m) true f = absurd (true≢false (ap is_source f))
-      go (Made m) false f = cc
-      go (Refused q) b f = cc
+      go : (a : Answer) (b : Bool) → form_by a b (length s) ≡ Err r → a ≡ Err r
+      go (Ok m) true f = absurd (true≢false (ap is_source f))
+      go (Ok m) false f = cc
+      go (Err q) b f = cc

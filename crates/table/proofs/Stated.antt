@@ -6,7 +6,7 @@ use mathlib.Core.List.{List, ◌++◌}
 use lib.Dec.{leb}
 use borrow.Author.Tests.{leb-true}
 use Rattle.refusals.specs.declared.Refusal.TheVariants.{LimitsOutside}
-use Rattle.refusals.specs.declared.Outcome.TheVariants.{Accepted, Refused}
+use Rattle.std.specs.Prelude.{Ok, Err}
 use Rattle.refusals.specs.Refusals.{Check, first}
 use Rattle.table.specs.declared.settings.Limits.{Limits}
 use Rattle.table.specs.Limits.{most, is_permitted}
@@ -44,14 +44,14 @@ module _ (l : Limits) where
     unfolding limit_checks
     permitted-checks e = rw e refl
 
-    pub outside-checks : is_permitted l ≡ false → first (limit_checks l ++ cs) ≡ Refused LimitsOutside
+    pub outside-checks : is_permitted l ≡ false → first (limit_checks l ++ cs) ≡ Err LimitsOutside
     unfolding limit_checks
     outside-checks e = rw e refl
 
-    pub passed_limits : first (limit_checks l ++ cs) ≡ Accepted → (is_permitted l ≡ true) × (first cs ≡ Accepted)
+    pub passed_limits : first (limit_checks l ++ cs) ≡ Ok tt → (is_permitted l ≡ true) × (first cs ≡ Ok tt)
     unfolding limit_checks
     passed_limits e = go (is_permitted l) refl
       where
-        go : (b : Bool) → is_permitted l ≡ b → (is_permitted l ≡ true) × (first cs ≡ Accepted)
+        go : (b : Bool) → is_permitted l ≡ b → (is_permitted l ≡ true) × (first cs ≡ Ok tt)
         go true h = (h, rw h at e)
         go false h = (cc, cc)

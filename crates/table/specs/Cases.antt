@@ -4,8 +4,8 @@ use Rattle.std.proofs.Common.{le_refl, lit<}
 use Rattle.logic.specs.Lasso.{Lasso, word}
 use Rattle.logic.specs.Semantics.{Holds}
 use Rattle.logic.specs.ClassByte.{class_byte}
-use Rattle.refusals.specs.declared.Outcome.{Outcome}
-use Rattle.refusals.specs.declared.Outcome.TheVariants.{Accepted, Refused}
+use Rattle.refusals.specs.Refusals.{Outcome}
+use Rattle.std.specs.Prelude.{Ok, Err}
 use Rattle.refusals.specs.Refusals.{number_of, place_of, first}
 use Rattle.table.specs.Table.{rule}
 use Rattle.table.specs.Header.{headed, body, headed_checked}
@@ -31,18 +31,18 @@ pub data Case : Type 0 where
 
 -- an outcome is the refusal of that number and place
 abbrev pub IsRefusal : Outcome → ℕ → ℕ → Type 0
-IsRefusal Accepted n p = ⊥
-IsRefusal (Refused r) n p = (number_of r ≡ n) × (place_of r ≡ p)
+IsRefusal (Ok tt) n p = ⊥
+IsRefusal (Err r) n p = (number_of r ≡ n) × (place_of r ≡ p)
 
 -- what a row says; a table that is not refused is accepted with its header
 abbrev pub Right : Case → Type 0
-Right (form t u) = (headed_checked true 16383 t ≡ Accepted) × (headed (form_table (body t)) ≡ u)
-Right (normal t u) = (headed_checked true 16383 t ≡ Accepted) × (headed (normal_table (body t)) ≡ u)
-Right (plain t u) = (headed_checked false 64 t ≡ Accepted) × (headed (plain_table (body t)) ≡ u)
+Right (form t u) = (headed_checked true 16383 t ≡ Ok tt) × (headed (form_table (body t)) ≡ u)
+Right (normal t u) = (headed_checked true 16383 t ≡ Ok tt) × (headed (normal_table (body t)) ≡ u)
+Right (plain t u) = (headed_checked false 64 t ≡ Ok tt) × (headed (plain_table (body t)) ≡ u)
 Right (refused t n p) = IsRefusal (headed_checked false 64 t) n p
 Right (refused_by s t n p) = IsRefusal (first (s.checks t)) n p
-Right (class t b) = (headed_checked true 16383 t ≡ Accepted) × (class_byte (rule (body t)) ≡ b)
-Right (judged t r bs) = (headed_checked false 16383 t ≡ Accepted) × ((i : ℕ) → i < length bs → Holds (word r) (rule (body t)) i ↔ T (get_or bs i false))
+Right (class t b) = (headed_checked true 16383 t ≡ Ok tt) × (class_byte (rule (body t)) ≡ b)
+Right (judged t r bs) = (headed_checked false 16383 t ≡ Ok tt) × ((i : ℕ) → i < length bs → Holds (word r) (rule (body t)) i ↔ T (get_or bs i false))
 
 -- a recording of two samples, looped at the second; and one sample for ever; both drive all 32 letters
 abbrev pub twice : ℕ → ℕ → Lasso

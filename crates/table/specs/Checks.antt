@@ -1,7 +1,7 @@
 -- The check table of document 01, numbers 1 to 10: conditions, order, numbers and places.
 use Rattle.std.specs.Prelude.{ℕ, zero, suc, ◌-◌, Bool, true, false, not, ◌&&◌, ◌||◌, List, [], ◌∷◌, ◌++◌, length, ltb, leb, eqb}
 use Rattle.refusals.specs.declared.Refusal.TheVariants.{NoWord, TooManyWords, KindZero, NotPlain, OperandZero, OperandNotEarlier, LetterOutOfRange, FieldNotZero, Repeated, Unused}
-use Rattle.refusals.specs.declared.Outcome.{Outcome}
+use Rattle.refusals.specs.Refusals.{Outcome}
 use Rattle.refusals.specs.Refusals.{Check, ◌⇒◌, first}
 use Rattle.table.specs.Node.{Field, blank, proposition, operand, kind, left, right, shape, left_field, right_field}
 

@@ -1,11 +1,10 @@
 -- A step that makes words of a table: check, make, reply.
 use Rattle.std.specs.Prelude.{ℕ, Bool, true, false, cond, List, [], ◌++◌, length, drop, replicate, eqb}
 use Rattle.refusals.specs.declared.Report.{Report}
-use Rattle.refusals.specs.declared.Outcome.{Outcome}
-use Rattle.refusals.specs.declared.Outcome.TheVariants as outcome
-use Rattle.table.specs.declared.answer.Answer.{Answer}
-use Rattle.table.specs.declared.answer.Answer.TheVariants.{Made, Refused}
-use Rattle.table.specs.declared.answer.Form.{Form}
+use Rattle.refusals.specs.Refusals.{Outcome}
+use Rattle.std.specs.Prelude.{Ok, Err}
+use Rattle.table.specs.Answers.{Answer}
+use Rattle.table.specs.Answers.{FormAnswer}
 use Rattle.table.specs.declared.answer.Form.TheVariants as form
 use Rattle.table.specs.declared.settings.Limits.{Limits}
 use Rattle.refusals.specs.Refusals.{Check, first, report_of, outcome_report, number_of}
@@ -56,65 +55,65 @@ unfoldable pub outcome_of : Step → List ℕ → ℕ → Outcome
 outcome_of s t slice = first (s.checks t ++ result_checks (length (s.makes t)) slice)
 
 abbrev pub answer_by : Outcome → ℕ → Answer
-answer_by outcome.Accepted n = Made n
-answer_by (outcome.Refused r) n = Refused r
+answer_by (Ok tt) n = Ok n
+answer_by (Err r) n = Err r
 
 unfoldable pub answer_of : Step → List ℕ → ℕ → Answer
 answer_of s t slice = answer_by (outcome_of s t slice) (length (s.makes t))
 
 -- accepted: the words at the front, and what stood past them; refused by 12: every word 0; refused otherwise: no change
 abbrev pub result_by : Outcome → List ℕ → List ℕ → List ℕ
-result_by outcome.Accepted made slice = made ++ drop (length made) slice
-result_by (outcome.Refused r) made slice = cond (eqb (number_of r) 12) (replicate (length slice) 0) slice
+result_by (Ok tt) made slice = made ++ drop (length made) slice
+result_by (Err r) made slice = cond (eqb (number_of r) 12) (replicate (length slice) 0) slice
 
 unfoldable pub result_of : Step → List ℕ → List ℕ → List ℕ
 result_of s t slice = result_by (outcome_of s t (length slice)) (s.makes t) slice
 
 -- an answer by document 01's numbers: the refusal's number and place, both 0 where words were made; and how many were
 abbrev pub answer_report : Answer → Report
-answer_report (Made n) = outcome_report outcome.Accepted
-answer_report (Refused r) = report_of r
+answer_report (Ok n) = outcome_report (Ok tt)
+answer_report (Err r) = report_of r
 
 abbrev pub answer_words : Answer → ℕ
-answer_words (Made n) = n
-answer_words (Refused r) = 0
+answer_words (Ok n) = n
+answer_words (Err r) = 0
 
 abbrev pub answer_number : Answer → ℕ
 answer_number a = (answer_report a).0
 
 -- the normal-form step's answer: the table that was handed over, of so many words, or so many that were made
-abbrev pub form_by : Answer → Bool → ℕ → Form
-form_by (Made n) true source = form.Source source
-form_by (Made n) false source = form.Made n
-form_by (Refused r) own source = form.Refused r
+abbrev pub form_by : Answer → Bool → ℕ → FormAnswer
+form_by (Ok n) true source = Ok (form.Source source)
+form_by (Ok n) false source = Ok (form.Made n)
+form_by (Err r) own source = Err r
 
-unfoldable pub form_of : Limits → List ℕ → ℕ → Form
+unfoldable pub form_of : Limits → List ℕ → ℕ → FormAnswer
 form_of l s slice = form_by (answer_of (normal_step l) s slice) (is_normal (body s)) (length s)
 
 -- the words that are handed back: those of the form with its header; a refusal hands back none
-abbrev pub handed_by : Form → List ℕ → List ℕ
-handed_by (form.Source n) words = words
-handed_by (form.Made n) words = words
-handed_by (form.Refused r) words = []
+abbrev pub handed_by : FormAnswer → List ℕ → List ℕ
+handed_by (Ok (form.Source n)) words = words
+handed_by (Ok (form.Made n)) words = words
+handed_by (Err r) words = []
 
 unfoldable pub handed : Limits → List ℕ → ℕ → List ℕ
 handed l s slice = handed_by (form_of l s slice) (headed (form_table (body s)))
 
 -- a form's answer by document 01's numbers, its length, and whether its source is the form
-abbrev pub form_report : Form → Report
-form_report (form.Source n) = outcome_report outcome.Accepted
-form_report (form.Made n) = outcome_report outcome.Accepted
-form_report (form.Refused r) = report_of r
+abbrev pub form_report : FormAnswer → Report
+form_report (Ok (form.Source n)) = outcome_report (Ok tt)
+form_report (Ok (form.Made n)) = outcome_report (Ok tt)
+form_report (Err r) = report_of r
 
-abbrev pub form_words : Form → ℕ
-form_words (form.Source n) = n
-form_words (form.Made n) = n
-form_words (form.Refused r) = 0
+abbrev pub form_words : FormAnswer → ℕ
+form_words (Ok (form.Source n)) = n
+form_words (Ok (form.Made n)) = n
+form_words (Err r) = 0
 
-abbrev pub is_source : Form → Bool
-is_source (form.Source n) = true
-is_source (form.Made n) = false
-is_source (form.Refused r) = false
+abbrev pub is_source : FormAnswer → Bool
+is_source (Ok (form.Source n)) = true
+is_source (Ok (form.Made n)) = false
+is_source (Err r) = false
 
-abbrev pub form_number : Form → ℕ
+abbrev pub form_number : FormAnswer → ℕ
 form_number f = (form_report f).0

@@ -3,7 +3,7 @@
 use Rattle.std.specs.Prelude.{ℕ, Bool, false, not, ◌||◌, cond, List, [], ◌∷◌, ◌++◌, length, get_or, drop, ltb, leb, eqb}
 use Rattle.logic.specs.ClassByte.{class_byte}
 use Rattle.refusals.specs.declared.Refusal.TheVariants.{NoWord, TooManyWords, CountDiffers, HeaderWrong}
-use Rattle.refusals.specs.declared.Outcome.{Outcome}
+use Rattle.refusals.specs.Refusals.{Outcome}
 use Rattle.refusals.specs.Refusals.{Check, ◌⇒◌, first}
 use Rattle.table.specs.Node.{kind, left, right, pack}
 use Rattle.table.specs.Table.{rule}

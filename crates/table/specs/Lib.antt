@@ -7,5 +7,6 @@ pub mod Numbering
 pub mod Steps
 pub mod StepChecks
 pub mod Limits
+pub mod Answers
 pub mod Frame
 pub mod Cases

@@ -5,7 +5,7 @@ use Rattle.logic.specs.Lasso.{Lasso}
 unfoldable pub use Rattle.logic.specs.Lasso.{lasso_of}
 use Rattle.logic.specs.Truth.{truth}
 use Rattle.row_words.specs.Row.{row, row_words}
-use Rattle.refusals.specs.declared.Outcome.TheVariants.{Accepted}
+use Rattle.std.specs.Prelude.{Ok}
 use Rattle.table.specs.Checks.{checked}
 
 -- row number j, counted from 0, among rows of so many words
@@ -27,7 +27,7 @@ rows_then r φs scratch = rows_of r φs ++ drop (length φs * row_words (length 
 
 -- what the filling of rows rests on; how many letters are driven is no part of it
 pub record Fillable (t samples : List ℕ) (start : ℕ) (scratch : List ℕ) : Type 0 where
-  pub accepted : checked false 16383 t ≡ Accepted
+  pub accepted : checked false 16383 t ≡ Ok tt
   pub some : 1 ≤ length samples
   pub few : length samples ≤ 4096
   pub inside : start < length samples

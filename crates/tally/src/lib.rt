@@ -30,29 +30,18 @@ impl Tally {
     pub fn full(self) -> bool
         ensures { result ≡ is_full self }
     {
-        self.judged == 4294967295 || self.held > self.judged
+        self.judged == u32::MAX || self.held > self.judged
     }
 
     pub fn after(self, held: bool) -> Self
         ensures { result ≡ tally_after self held }
     {
-        let judged = self.judged;
-        let before = self.held;
-        if judged == 4294967295 {
+        if self.full() {
             return self;
-        }
-        if before > judged {
-            return self;
-        }
-        if held {
-            return Tally {
-                judged: judged + 1,
-                held: before + 1,
-            };
         }
         Tally {
-            judged: judged + 1,
-            held: before,
+            judged: self.judged + 1,
+            held: self.held + u32::from(held),
         }
     }
 }

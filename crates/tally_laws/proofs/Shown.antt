@@ -10,34 +10,33 @@ use native.Mathlib.Omega.{arith}
 use lib.Dec.{T, eqb, eqb→eq, eqb-zero-suc, eqb-suc-zero, eqb-suc-suc}
 use lib.ListN.{length, get_or, set, length-set, length-replicate, get_or-replicate}
 use Rattle.refusals.specs.declared.Refusal.{Refusal}
-use Rattle.refusals.specs.declared.Outcome.{Outcome}
-use Rattle.refusals.specs.declared.Outcome.TheVariants.{Accepted, Refused}
+use Rattle.refusals.specs.Refusals.{Outcome}
+use Rattle.std.specs.Prelude.{Ok, Err}
 use Rattle.table.specs.Table.{rule}
 use Rattle.table.specs.Header.{body}
 use Rattle.tally.specs.declared.Tally.{Tally}
 use Rattle.tally.specs.Tallies.{none_judged, counted}
 use Rattle.judging.specs.declared.answer.Judgement.{Judgement}
-use Rattle.judging.specs.declared.answer.Judgement.TheVariants.{Judged as JudgedAs, Refused as NotJudged}
-use Rattle.judging.specs.Judging.{lasso_of, judge_outcome, reply_by, reply, desk_of, tallies_after}
+use Rattle.judging.specs.Judging.{JudgeAnswer, lasso_of, judge_outcome, reply_by, reply, desk_of, tallies_after}
 use Rattle.judging.proofs.LastRow.{judge_desk}
 use Rattle.tally_laws.specs.History.{Call, Entry, answer_over, leaves, history, tallies_left, zeroed, is_accepted, is_held, count, shown_at, total, summed, together}
 
 -- a call leaves as many tallies as it finds
-pub as_many : (a : Judgement) (tallies : List Tally) (n : ℕ) → length (tallies_after a tallies n) ≡ length tallies
+pub as_many : (a : JudgeAnswer) (tallies : List Tally) (n : ℕ) → length (tallies_after a tallies n) ≡ length tallies
 unfolding tallies_after
-as_many (JudgedAs holds moments failing) tallies n = length-set tallies n _
-as_many (NotJudged why) tallies n = refl
+as_many (Ok j) tallies n = length-set tallies n _
+as_many (Err why) tallies n = refl
 
 -- what is accepted names a desk that has a tally
-inside : (tallies : List Tally) (c : Call) → (c.desk < length tallies) ⊎ ((why : Refusal) × (answer_over tallies c ≡ NotJudged why))
+inside : (tallies : List Tally) (c : Call) → (c.desk < length tallies) ⊎ ((why : Refusal) × (answer_over tallies c ≡ Err why))
 unfolding answer_over reply reply_by
 inside tallies c = by (judge_outcome c.table c.samples c.start c.driven c.scratch (desk_of tallies c.desk)) refl
   where
     by : (o : Outcome) → judge_outcome c.table c.samples c.start c.driven c.scratch (desk_of tallies c.desk) ≡ o
         → (c.desk < length tallies)
-        ⊎ ((why : Refusal) × ((reply_by o (lasso_of c.samples c.start c.driven) (rule (body c.table)) (desk_of tallies c.desk).tally).answer ≡ NotJudged why))
-    by Accepted e = inl (judge_desk c.table c.samples c.start c.driven c.scratch (desk_of tallies c.desk) e).0
-    by (Refused why) e = inr (why, refl)
+        ⊎ ((why : Refusal) × ((reply_by o (lasso_of c.samples c.start c.driven) (rule (body c.table)) (desk_of tallies c.desk).tally).answer ≡ Err why))
+    by (Ok tt) e = inl (judge_desk c.table c.samples c.start c.driven c.scratch (desk_of tallies c.desk) e).0
+    by (Err why) e = inr (why, refl)
 
 get_d_set : (cs : List Tally) (k n : ℕ) (c : Tally) → n < length cs → get_or (set cs k c) n none_judged ≡ cond (eqb k n) c (get_or cs n none_judged)
 get_d_set [] k n c l = absurd (omega arith)
@@ -47,42 +46,42 @@ get_d_set (d ∷ cs) (suc k) zero c l = rw (eqb-suc-zero k) refl
 get_d_set (d ∷ cs) (suc k) (suc n) c l = rw (eqb-suc-suc k n) (get_d_set cs k n c (omega arith))
 
 -- a part of a tally, and the test of the answers that it counts
-module _ (part : Tally → ℕ) (test : Judgement → Bool)
+module _ (part : Tally → ℕ) (test : JudgeAnswer → Bool)
     (none : part none_judged ≡ 0)
-    (counts : (c : Tally) (holds : Bool) (moments failing : ℕ) → part (counted c holds) ≡ part c + cond (test (JudgedAs holds moments failing)) 1 0)
-    (passes : (why : Refusal) → test (NotJudged why) ≡ false) where
+    (counts : (c : Tally) (j : Judgement) → part (counted c j.holds) ≡ part c + cond (test (Ok j)) 1 0)
+    (passes : (why : Refusal) → test (Err why) ≡ false) where
   -- one call, in the tally of the desk of number n
-  refused_none : (x : ℕ) (b : Bool) (why : Refusal) → x ≡ x + cond (b && test (NotJudged why)) 1 0
+  refused_none : (x : ℕ) (b : Bool) (why : Refusal) → x ≡ x + cond (b && test (Err why)) 1 0
   refused_none x true why = rw (passes why) (sym (add-zero x))
   refused_none x false why = sym (add-zero x)
 
-  counted_at : (cs : List Tally) (k n : ℕ) (holds : Bool) (moments failing : ℕ) (b : Bool) → eqb k n ≡ b
-      → part (cond b (counted (get_or cs k none_judged) holds) (get_or cs n none_judged)) ≡ part (get_or cs n none_judged) + cond (b && test (JudgedAs holds moments failing)) 1 0
-  counted_at cs k n holds moments failing true e =
+  counted_at : (cs : List Tally) (k n : ℕ) (j : Judgement) (b : Bool) → eqb k n ≡ b
+      → part (cond b (counted (get_or cs k none_judged) j.holds) (get_or cs n none_judged)) ≡ part (get_or cs n none_judged) + cond (b && test (Ok j)) 1 0
+  counted_at cs k n j true e =
       let same : k ≡ n = eqb→eq k n (subst T (sym e) tt) in
-      counts (get_or cs k none_judged) holds moments failing
-      ∙ ap (λ (j : ℕ). part (get_or cs j none_judged) + cond (test (JudgedAs holds moments failing)) 1 0) same
-  counted_at cs k n holds moments failing false e = sym (add-zero _)
+      counts (get_or cs k none_judged) j
+      ∙ ap (λ (m : ℕ). part (get_or cs m none_judged) + cond (test (Ok j)) 1 0) same
+  counted_at cs k n j false e = sym (add-zero _)
 
-  step_at : (a : Judgement) (cs : List Tally) (k n : ℕ) → n < length cs
+  step_at : (a : JudgeAnswer) (cs : List Tally) (k n : ℕ) → n < length cs
       → part (get_or (tallies_after a cs k) n none_judged) ≡ part (get_or cs n none_judged) + cond (eqb k n && test a) 1 0
   unfolding tallies_after
-  step_at (JudgedAs holds moments failing) cs k n l = ap part (get_d_set cs k n _ l) ∙ counted_at cs k n holds moments failing (eqb k n) refl
-  step_at (NotJudged why) cs k n l = refused_none (part (get_or cs n none_judged)) (eqb k n) why
+  step_at (Ok j) cs k n l = ap part (get_d_set cs k n _ l) ∙ counted_at cs k n j (eqb k n) refl
+  step_at (Err why) cs k n l = refused_none (part (get_or cs n none_judged)) (eqb k n) why
 
   -- and in all tallies together
-  step_set : (cs : List Tally) (k : ℕ) (holds : Bool) (moments failing : ℕ) → k < length cs
-      → summed part (set cs k (counted (get_or cs k none_judged) holds)) ≡ summed part cs + cond (test (JudgedAs holds moments failing)) 1 0
-  step_set [] k holds moments failing l = absurd (omega arith)
-  step_set (c ∷ cs) zero holds moments failing l = omega (arith, counts c holds moments failing)
-  step_set (c ∷ cs) (suc k) holds moments failing l = omega (arith, step_set cs k holds moments failing (omega arith))
+  step_set : (cs : List Tally) (k : ℕ) (j : Judgement) → k < length cs
+      → summed part (set cs k (counted (get_or cs k none_judged) j.holds)) ≡ summed part cs + cond (test (Ok j)) 1 0
+  step_set [] k j l = absurd (omega arith)
+  step_set (c ∷ cs) zero j l = omega (arith, counts c j)
+  step_set (c ∷ cs) (suc k) j l = omega (arith, step_set cs k j (omega arith))
 
-  step_all : (a : Judgement) (cs : List Tally) (k : ℕ) → (k < length cs) ⊎ ((why : Refusal) × (a ≡ NotJudged why))
+  step_all : (a : JudgeAnswer) (cs : List Tally) (k : ℕ) → (k < length cs) ⊎ ((why : Refusal) × (a ≡ Err why))
       → summed part (tallies_after a cs k) ≡ summed part cs + cond (test a) 1 0
   unfolding tallies_after
-  step_all (JudgedAs holds moments failing) cs k (inl l) = step_set cs k holds moments failing l
-  step_all (JudgedAs holds moments failing) cs k (inr w) = let clash = w.1 in cc
-  step_all (NotJudged why) cs k w = rw (passes why) (sym (add-zero (summed part cs)))
+  step_all (Ok j) cs k (inl l) = step_set cs k j l
+  step_all (Ok j) cs k (inr w) = let clash = w.1 in cc
+  step_all (Err why) cs k w = rw (passes why) (sym (add-zero (summed part cs)))
 
   -- any calls
   left_at : (cs : List Tally) (calls : List Call) (n : ℕ) → n < length cs
@@ -123,12 +122,12 @@ tallies_stay cs (c ∷ calls) = tallies_stay (leaves cs c) calls ∙ as_many (an
 pub shown : (desks : ℕ) (calls : List Call) (n : ℕ) → n < desks → get_or (tallies_left (zeroed desks) calls) n none_judged ≡ shown_at n (history (zeroed desks) calls)
 shown desks calls n l =
     ap₂ (λ (j h : ℕ). record { judged = j; held = h })
-    (part_shown (λ (c : Tally). c.judged) is_accepted refl (λ c holds moments failing. refl) (λ why. refl) desks calls n l)
-    (part_shown (λ (c : Tally). c.held) is_held refl (λ c holds moments failing. held_counts c holds) (λ why. refl) desks calls n l)
+    (part_shown (λ (c : Tally). c.judged) is_accepted refl (λ c j. refl) (λ why. refl) desks calls n l)
+    (part_shown (λ (c : Tally). c.held) is_held refl (λ c j. held_counts c j.holds) (λ why. refl) desks calls n l)
 
 -- and together they make the house's total
 pub total-shown : (desks : ℕ) (calls : List Call) → together (tallies_left (zeroed desks) calls) ≡ total (history (zeroed desks) calls)
 total-shown desks calls =
     ap₂ (λ (j h : ℕ). record { judged = j; held = h })
-    (part_total (λ (c : Tally). c.judged) is_accepted refl (λ c holds moments failing. refl) (λ why. refl) desks calls)
-    (part_total (λ (c : Tally). c.held) is_held refl (λ c holds moments failing. held_counts c holds) (λ why. refl) desks calls)
+    (part_total (λ (c : Tally). c.judged) is_accepted refl (λ c j. refl) (λ why. refl) desks calls)
+    (part_total (λ (c : Tally). c.held) is_held refl (λ c j. held_counts c j.holds) (λ why. refl) desks calls)

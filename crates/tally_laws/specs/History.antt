@@ -1,10 +1,8 @@
 -- Calls of the judge one after the other, over tallies that nothing else writes: their history, and what it says of each desk and of the house.
-use Rattle.std.specs.Prelude.{ℕ, ◌+◌, Bool, true, false, ◌&&◌, cond, List, [], ◌∷◌, eqb, replicate}
+use Rattle.std.specs.Prelude.{ℕ, ◌+◌, Bool, true, false, ◌&&◌, cond, List, [], ◌∷◌, eqb, replicate, Ok, Err}
 use Rattle.tally.specs.declared.Tally.{Tally}
 use Rattle.tally.specs.Tallies.{none_judged}
-use Rattle.judging.specs.declared.answer.Judgement.{Judgement}
-use Rattle.judging.specs.declared.answer.Judgement.TheVariants.{Judged, Refused}
-use Rattle.judging.specs.Judging.{reply, desk_of, tallies_after}
+use Rattle.judging.specs.Judging.{JudgeAnswer, reply, desk_of, tallies_after}
 
 -- what a call is handed beside the tallies
 pub record Call : Type 0 where
@@ -16,7 +14,7 @@ pub record Call : Type 0 where
   pub desk : ℕ
 
 -- what is answered, over the tallies that it finds
-unfoldable pub answer_over : List Tally → Call → Judgement
+unfoldable pub answer_over : List Tally → Call → JudgeAnswer
 answer_over tallies c = (reply c.table c.samples c.start c.driven c.scratch (desk_of tallies c.desk)).answer
 
 -- the tallies that it leaves
@@ -26,7 +24,7 @@ leaves tallies c = tallies_after (answer_over tallies c) tallies c.desk
 -- what a history keeps of a call: the desk that it named, and what was answered
 pub record Entry : Type 0 where
   pub desk : ℕ
-  pub answer : Judgement
+  pub answer : JudgeAnswer
 
 -- the history of calls from these tallies on, and the tallies after the last of them
 abbrev pub history : List Tally → List Call → List Entry
@@ -42,13 +40,13 @@ abbrev pub zeroed : ℕ → List Tally
 zeroed desks = replicate desks none_judged
 
 -- an accepted judgement, and one that held
-abbrev pub is_accepted : Judgement → Bool
-is_accepted (Judged holds moments failing) = true
-is_accepted (Refused why) = false
+abbrev pub is_accepted : JudgeAnswer → Bool
+is_accepted (Ok j) = true
+is_accepted (Err why) = false
 
-abbrev pub is_held : Judgement → Bool
-is_held (Judged holds moments failing) = holds
-is_held (Refused why) = false
+abbrev pub is_held : JudgeAnswer → Bool
+is_held (Ok j) = j.holds
+is_held (Err why) = false
 
 -- how many entries of a history pass a test
 abbrev pub count : (Entry → Bool) → List Entry → ℕ

@@ -1,12 +1,12 @@
 -- The seven slots of a word that is U, W, R or M.
-use Rattle.std.specs.Prelude.{ℕ, ◌+◌, ◌*◌, cond, List, set}
+use Rattle.std.specs.Prelude.{ℕ, ◌+◌, ◌*◌, cond, List, set, is_some}
 use Rattle.slots.specs.Slot.{pack}
 use Rattle.word_states.specs.declared.Held.{Held}
 use Rattle.move_slots.specs.Slots.{held_slots, state_slots}
 
 -- the place among the three of the class that U, W, R or M has
 abbrev pub lane : Held → ℕ
-lane h = cond h.sigma 0 (cond h.pi 1 2)
+lane h = cond (is_some h.sigma) 0 (cond (is_some h.pi) 1 2)
 
 -- U, W, R, M: the outer kind over the right operand moved, and the inner kind over the left operand moved and the state itself
 abbrev pub inner_slot : (j i inner l : ℕ) → ℕ

@@ -12,13 +12,11 @@ use word_states::Held;
 fn lane(h: Held) -> usize
     ensures { (result ≡ moves.lane h) × (result < 3) }
 {
-    if h.sigma {
-        return 0;
+    match (h.sigma, h.pi) {
+        (Some(_), _) => 0,
+        (None, Some(_)) => 1,
+        (None, None) => 2,
     }
-    if h.pi {
-        return 1;
-    }
-    2
 }
 
 // U and W: the inner kind is and, the outer one or; R and M: the other way round. The class is the one at place i.

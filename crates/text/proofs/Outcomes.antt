@@ -12,9 +12,8 @@ use Rattle.logic.specs.Formula.{Formula}
 use Rattle.logic.proofs.Numbers.{get_or-zeros}
 use Rattle.refusals.specs.declared.Refusal.{Refusal}
 use Rattle.refusals.specs.declared.Refusal.TheVariants.{TooManyWords, ResultTooShort, NotGrammar, TextTooLong, LimitsOutside}
-use Rattle.refusals.specs.declared.Outcome.TheVariants as outcome
-use Rattle.table.specs.declared.answer.Answer.{Answer}
-use Rattle.table.specs.declared.answer.Answer.TheVariants.{Made, Refused}
+use Rattle.std.specs.Prelude.{Result, Ok, Err}
+use Rattle.table.specs.Answers.{Answer}
 use Rattle.table.specs.declared.settings.Limits.{Limits}
 use Rattle.table.specs.Limits.{is_permitted}
 use Rattle.refusals.specs.Refusals.{first, number_of}
@@ -29,7 +28,7 @@ use Rattle.headed_answers.proofs.Ends.{given_ends}
 use Rattle.placing.specs.State as draft
 use Rattle.placing.proofs.Putting.{written-length, numbered_none}
 use Rattle.grammar.specs.Reader.{reading_of, departure_of}
-use Rattle.parsing.specs.Parsed.{Fresh, Parsed}
+use Rattle.parsing.specs.Parsed.{Fresh, Parsed, OkOrPlace}
 use Rattle.text.specs.Text.{table_by, text_table, read_step, text_step}
 
 -- no check before the last refuses for length
@@ -49,21 +48,21 @@ fresh text h = record {
 }
 
 module _ (l : Limits) (text : List ℕ) (slice : List ℕ) where
-  refused : (r : Refusal) → first ((text_step l).checks text) ≡ outcome.Refused r
-      → (Refused r ≡ answer_of (text_step l) text (length slice)) × (slice ≡ result_of (text_step l) text slice)
+  refused : (r : Refusal) → first ((text_step l).checks text) ≡ Err r
+      → (Err r ≡ answer_of (text_step l) text (length slice)) × (slice ≡ result_of (text_step l) text slice)
   refused r e = (sym (refused-answer (text_step l) text slice r e), sym (refused-result (text_step l) text slice (text-early l) r e))
 
-  pub outcome_outside : is_permitted l ≡ false → (Refused LimitsOutside ≡ answer_of (text_step l) text (length slice)) × (slice ≡ result_of (text_step l) text slice)
+  pub outcome_outside : is_permitted l ≡ false → (Err LimitsOutside ≡ answer_of (text_step l) text (length slice)) × (slice ≡ result_of (text_step l) text slice)
   outcome_outside h = refused LimitsOutside (outside-checks l ((read_step l.written).checks text) h)
 
   -- by permitted limits
   module _ (p : is_permitted l ≡ true) where
-    pub outcome_long : 1024 < length text → (Refused TextTooLong ≡ answer_of (text_step l) text (length slice)) × (slice ≡ result_of (text_step l) text slice)
+    pub outcome_long : 1024 < length text → (Err TextTooLong ≡ answer_of (text_step l) text (length slice)) × (slice ≡ result_of (text_step l) text slice)
     outcome_long h = refused TextTooLong (permitted-checks l ((read_step l.written).checks text) p ∙ rw (lt-ltb 1024 (length text) h) refl)
 
     module _ (h : length text ≤ 1024) where
       pub outcome_departs : (r : ℕ) → (reading_of text ≡ none) × (r ≡ departure_of text)
-          → (Refused (NotGrammar r) ≡ answer_of (text_step l) text (length slice)) × (slice ≡ result_of (text_step l) text slice)
+          → (Err (NotGrammar r) ≡ answer_of (text_step l) text (length slice)) × (slice ≡ result_of (text_step l) text slice)
       outcome_departs r d = refused (NotGrammar r) (permitted-checks l ((read_step l.written).checks text) p ∙ rw (le-ltb 1024 (length text) h, d.0, d.1) refl)
 
       module _ (φ : Formula) (e : reading_of text ≡ option.some φ) where
@@ -71,11 +70,11 @@ module _ (l : Limits) (text : List ℕ) (slice : List ℕ) where
         unfolding text_table
         table_is = ap table_by e
 
-        pub outcome_many : l.written < length (table_of φ) → (Refused TooManyWords ≡ answer_of (text_step l) text (length slice)) × (slice ≡ result_of (text_step l) text slice)
+        pub outcome_many : l.written < length (table_of φ) → (Err TooManyWords ≡ answer_of (text_step l) text (length slice)) × (slice ≡ result_of (text_step l) text slice)
         outcome_many k = refused TooManyWords (permitted-checks l ((read_step l.written).checks text) p ∙ rw (le-ltb 1024 (length text) h, e, table_is, lt-ltb l.written (length (table_of φ)) k) refl)
 
         module _ (k : length (table_of φ) ≤ l.written) where
-          passes : first ((text_step l).checks text) ≡ outcome.Accepted
+          passes : first ((text_step l).checks text) ≡ Ok tt
           passes = permitted-checks l ((read_step l.written).checks text) p ∙ rw (le-ltb 1024 (length text) h, e, table_is, le-ltb l.written (length (table_of φ)) k) refl
 
           -- the words under their header
@@ -86,11 +85,11 @@ module _ (l : Limits) (text : List ℕ) (slice : List ℕ) where
               (q.reply, q.slice)
 
           pub outcome_short : length slice < length (headed (table_of φ))
-              → (Refused ResultTooShort ≡ answer_of (text_step l) text (length slice)) × (replicate (length slice) 0 ≡ result_of (text_step l) text slice)
+              → (Err ResultTooShort ≡ answer_of (text_step l) text (length slice)) × (replicate (length slice) 0 ≡ result_of (text_step l) text slice)
           outcome_short z = outcome_given refl (record { fit = λ f. absurd (true≢false (sym f ∙ lt-leb (suc (length (table_of φ))) (min (length slice) 16384) (omega arith))); unfit = λ f. (refl, refl) })
 
           pub outcome_made : length (headed (table_of φ)) ≤ length slice
-              → (Made (length (headed (table_of φ))) ≡ answer_of (text_step l) text (length slice)) × (headed (table_of φ) ++ drop (length (headed (table_of φ))) slice ≡ result_of (text_step l) text slice)
+              → (Ok (length (headed (table_of φ))) ≡ answer_of (text_step l) text (length slice)) × (headed (table_of φ) ++ drop (length (headed (table_of φ))) slice ≡ result_of (text_step l) text slice)
           outcome_made z = outcome_given refl (record { fit = λ f. (refl, refl); unfit = λ f. absurd (true≢false (sym (le-leb (suc (length (table_of φ))) (min (length slice) 16384) (omega (arith, (permitted l p).written))) ∙ f)) })
 
 -- the words that were read, by their count
@@ -100,3 +99,8 @@ module _ {text : List ℕ} {s : draft.State} {r : ℕ} (p : Parsed text s r) (z 
 
   pub copied : (n : ℕ) → n ≡ draft.count s → take n s.out ≡ table_of (p.reads z).0
   copied n e = ap (λ (k : ℕ). take k s.out) e ∙ (p.reads z).2
+
+-- what is no departure is a rule
+pub read_rule : (text : List ℕ) (s : draft.State) (r : Result (Unit {0}) ℕ) → OkOrPlace (λ n. Parsed text s n) r → ((n : ℕ) → r ≡ Err n → ⊥) → Parsed text s 0
+read_rule text s (Ok u) p f = p
+read_rule text s (Err n) p f = absurd (f n refl)

@@ -12,9 +12,8 @@ use borrow.Author.Tests.{ltb-false}
 use Rattle.logic.specs.Formula.{Formula}
 use Rattle.logic.proofs.Numbers.{lt_or_le}
 use Rattle.refusals.specs.declared.Refusal.TheVariants.{NotGrammar}
-use Rattle.refusals.specs.declared.Outcome.TheVariants.{Accepted}
-use Rattle.table.specs.declared.answer.Answer.{Answer}
-use Rattle.table.specs.declared.answer.Answer.TheVariants.{Made, Refused}
+use Rattle.table.specs.Answers.{Answer}
+use Rattle.std.specs.Prelude.{Ok, Err}
 use Rattle.table.specs.declared.settings.Limits.{Limits}
 use Rattle.refusals.specs.Refusals.{first}
 use Rattle.table.specs.Limits.{is_permitted}
@@ -92,7 +91,7 @@ one_read (too_long h) (too_many ψ l q k) = absurd (omega arith)
 one_read (too_long h) (too_short ψ l q k j) = absurd (omega arith)
 one_read (too_long h) (table ψ l q k j) = absurd (omega arith)
 one_read (departing n h d) (too_long k) = absurd (omega arith)
-one_read (departing n h d) (departing m l e) = (ap (λ (i : ℕ). Refused (NotGrammar i)) (departs-once d e), refl)
+one_read (departing n h d) (departing m l e) = (ap (λ (i : ℕ). Err (NotGrammar i)) (departs-once d e), refl)
 one_read (departing n h d) (too_many ψ l q k) = absurd (read-departs q d)
 one_read (departing n h d) (too_short ψ l q k j) = absurd (read-departs q d)
 one_read (departing n h d) (table ψ l q k j) = absurd (read-departs q d)
@@ -112,7 +111,7 @@ one_read (table φ h r g i) (too_many ψ l q k) = absurd (omega (arith, same_len
 one_read (table φ h r g i) (too_short ψ l q k j) = absurd (omega (arith, same_length r q))
 one_read {slice = slice} (table φ h r g i) (table ψ l q k j) =
     let e = one_reading r q in
-    (ap (λ (χ : Formula). Made (length (headed (table_of χ)))) e, ap (λ (χ : Formula). headed (table_of χ) ++ drop (length (headed (table_of χ))) slice) e)
+    (ap (λ (χ : Formula). Ok (length (headed (table_of χ)))) e, ap (λ (χ : Formula). headed (table_of χ) ++ drop (length (headed (table_of χ))) slice) e)
 
 pub one_reply : {l : Limits} {text slice : List ℕ} {a b : Answer} {s t : List ℕ} → Reply l text slice a s → Reply l text slice b t → (a ≡ b) × (s ≡ t)
 one_reply (outside p) (outside q) = (refl, refl)
@@ -127,11 +126,11 @@ rule-letters (letter_rule n h k) = (h, k)
 rule-letters (prefixed o r) = rule-letters r
 rule-letters (bracketed o r q) = (rule-letters r, rule-letters q)
 
-pub text-words-accepted : {text : List ℕ} {φ : Formula} → Reads text φ → (limit : ℕ) → length (table_of φ) ≤ limit → limit ≤ 16383 → checked false limit (table_of φ) ≡ Accepted
+pub text-words-accepted : {text : List ℕ} {φ : Formula} → Reads text φ → (limit : ℕ) → length (table_of φ) ≤ limit → limit ≤ 16383 → checked false limit (table_of φ) ≡ Ok tt
 text-words-accepted {φ = φ} r limit = accepted-written limit φ (rule-letters r.rule)
 
 pub text-accepted : {text : List ℕ} {φ : Formula} → Reads text φ → (limit : ℕ) → length (table_of φ) ≤ limit → limit ≤ 16383
-    → headed_checked false limit (headed (table_of φ)) ≡ Accepted
+    → headed_checked false limit (headed (table_of φ)) ≡ Ok tt
 text-accepted {φ = φ} r limit few small = headed-accepted false limit (table_of φ) small (text-words-accepted r limit few small)
 
 -- the rule of a text's table is the formula that the text is related to
@@ -147,7 +146,7 @@ record Told (l : Limits) (text front : List ℕ) : Type 0 where
   small : l.written ≤ 256
 
 -- of every answered call
-module _ (l : Limits) (text slice : List ℕ) (n : ℕ) (made : answer_of (text_step l) text (length slice) ≡ Made n) where
+module _ (l : Limits) (text slice : List ℕ) (n : ℕ) (made : answer_of (text_step l) text (length slice) ≡ Ok n) where
   told : Told l text (take n (result_of (text_step l) text slice))
   unfolding text_table
   told = by_reading (reading_of text) refl
@@ -155,7 +154,7 @@ module _ (l : Limits) (text slice : List ℕ) (n : ℕ) (made : answer_of (text_
       a : Answered (text_step l) text slice n
       a = answered (text_step l) text slice n made
 
-      b : (is_permitted l ≡ true) × (first ((read_step l.written).checks text) ≡ Accepted)
+      b : (is_permitted l ≡ true) × (first ((read_step l.written).checks text) ≡ Ok tt)
       b = passed_limits l ((read_step l.written).checks text) a.accepted
 
       p : Passed ((read_step l.written).checks text)
@@ -178,5 +177,5 @@ module _ (l : Limits) (text slice : List ℕ) (n : ℕ) (made : answer_of (text_
       subst (Reads text) (sym (ap (λ (t : List ℕ). rule (body t)) q.words ∙ text-rule q.reads (omega (arith, q.few, q.small)))) q.reads
 
   -- the plain-form step takes it
-  pub made_accepted : headed_checked false l.written (take n (result_of (text_step l) text slice)) ≡ Accepted
+  pub made_accepted : headed_checked false l.written (take n (result_of (text_step l) text slice)) ≡ Ok tt
   made_accepted = let q = told in rw q.words (text-accepted q.reads l.written q.few (omega (arith, q.small)))

@@ -7,30 +7,29 @@ ghost use Rattle.text.specs.Text.{text_step};
 
 use parsing::parse;
 use refusals::Refusal;
-use table::answer::Answer;
 use table::settings::Limits;
 
 // The table's length, or why there is none.
-pub fn read(limits: Limits, text: &[u8], res: &mut [u32]) -> Answer
+pub fn read(limits: Limits, text: &[u8], res: &mut [u32]) -> Result<usize, Refusal>
     ensures value { result ≡ answer_of (text_step limits) text.now (length res.old) }
     ensures res_after { res.new ≡ result_of (text_step limits) text.now res.old }
 {
     if !limits::permitted(limits) {
-        return Answer::Refused(Refusal::LimitsOutside);
+        return Err(Refusal::LimitsOutside);
     }
     if 1024 < text.len() {
-        return Answer::Refused(Refusal::TextTooLong);
+        return Err(Refusal::TextTooLong);
     }
     let mut stack = [0u32; 1025];
     let mut out = [0u32; 1025];
     let mut index = [0u16; 2052];
-    let place = parse(text, &mut stack, &mut out, &mut index);
+    let read = parse(text, &mut stack, &mut out, &mut index);
     let n = lookup::count(&index);
-    if place != 0 {
-        return Answer::Refused(Refusal::NotGrammar(place));
+    if let Err(place) = read {
+        return Err(Refusal::NotGrammar(place));
     }
     if limits.written < n {
-        return Answer::Refused(Refusal::TooManyWords);
+        return Err(Refusal::TooManyWords);
     }
     headed_copy::write(&out[..n], res)
 }

@@ -23,10 +23,8 @@ pub fn any(
     ensures looked { Looked table.now bits result }
     ensures laid { Laid table.now draft.new (length table.now) }
 {
-    if opened(table, positions, (1 << bits) - 1, draft, folded) {
-        return each(table, positions, bits, draft, folded);
-    }
-    false
+    opened(table, positions, (1 << bits) - 1, draft, folded)
+        && each(table, positions, bits, draft, folded)
 }
 
 // Whether the rule's opening form by a choice folds to true.
@@ -60,13 +58,11 @@ pub fn each(
     ensures laid { Laid table.now draft.new (length table.now) }
 {
     let limit: u32 = 1 << bits;
-    let mut choice = 0;
-    while choice < limit {
+    for choice in 0..limit {
         let root = parts::part(table, positions, choice, draft, folded);
         if slot::kind(folded[root]) == kinds::TRUE {
             return true;
         }
-        choice += 1;
     }
     false
 }

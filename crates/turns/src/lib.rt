@@ -30,7 +30,7 @@ pub struct Reader {
 pub fn is_digit(b: u8) -> bool
     ensures { result ≡ machine.is_digit b }
 {
-    48 <= b && b <= 57
+    matches!(b, b'0'..=b'9')
 }
 
 // No rule can come of it any more.
@@ -120,7 +120,7 @@ pub fn digit(n: u32, b: u8, depth: usize) -> Reader
         × numbers.Fit result.turn
         × (result.depth ≡ depth) }
 {
-    let m = 10 * n + (b as u32 - 48);
+    let m = 10 * n + u32::from(b - b'0');
     if m == 0 {
         return stuck(depth);
     }

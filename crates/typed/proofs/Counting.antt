@@ -1,24 +1,27 @@
 -- How many bytes the text of a word has, from those of its operands.
-use Prim.Native.Nat.{ℕ, zero, suc, ◌+◌, ◌-◌, ◌≤◌, ◌<◌, ◌^◌, min}
+use Prim.Native.Nat.{ℕ, zero, suc, ◌+◌, ◌<◌, ◌^◌, min}
 use mathlib.Core.Path.{◌≡◌, refl, ap, sym, ◌∙◌}
 use mathlib.Core.Bool.{false}
 use mathlib.Core.List.{List, [], ◌∷◌, ◌++◌, map, map-append}
 use native.Mathlib.Omega.{arith}
-use lib.ListN.{length, get_or, take, set, length-append, get_or-map, get_or-eq_default}
-use lib.Seq.{get_or-take, take-suc, take-suc-set}
+use lib.ListN.{length, get_or, take, set, length-append, get_or-map}
+use lib.Seq.{take-suc, take-suc-set}
 use Rattle.logic.specs.Formula.{Formula, const}
 use Rattle.logic.proofs.Numbers.{in_range}
 use Rattle.table.specs.Node.{kind, left, right, shape}
 use Rattle.table.specs.Table.{formula_of, formula_by, word_formula, formulas}
 use Rattle.table.proofs.Fields.{kind_lt}
 use Rattle.table.proofs.Formulas.{formula_at}
+use Rattle.layouts.specs.Layout.{layout_of}
+use Rattle.layouts.specs.declared.Layout.{Layout}
+use Rattle.layouts.specs.declared.Layout.TheVariants.{Constant, Letter, Unary, Binary}
 use Rattle.grammar.specs.Grammar.{decimal}
-use Rattle.typed.specs.Typed.{typed, most, counted, sorts, owns, sort_bytes, word_bytes, earlier}
+use Rattle.typed.specs.Typed.{typed, most, counted, owns, layout_bytes, word_bytes, earlier}
 
 -- a word of kind k has so many bytes
 abbrev Long : ℕ → Type 0
 Long k = (n : ℕ) (φ ψ : Formula) → length (typed (formula_by (shape k) n φ ψ))
-    ≡ sort_bytes (get_or sorts k 0) (get_or owns k 0) (length (decimal n)) (length (typed φ)) (length (typed ψ))
+    ≡ layout_bytes (layout_of (shape k)) (get_or owns k 0) (length (decimal n)) (length (typed φ)) (length (typed ψ))
 
 joined_long : (a s b : List ℕ) → length ((40 ∷ []) ++ (a ++ (32 ∷ s ++ (32 ∷ b ++ (41 ∷ []))))) ≡ 4 + length s + length a + length b
 joined_long a s b =
@@ -78,15 +81,15 @@ all_long k h =
     )
 
 -- what is counted up to the limit is enough to count on up to it
-saturated : (s o d a b : ℕ) → min most (sort_bytes s o d (min most a) (min most b)) ≡ min most (sort_bytes s o d a b)
-saturated zero o d a b = refl
-saturated (suc zero) o d a b = refl
-saturated (suc (suc zero)) o d a b = omega arith
-saturated (suc (suc (suc s))) o d a b = omega arith
+saturated : (s : Layout) (o d a b : ℕ) → min most (layout_bytes s o d (min most a) (min most b)) ≡ min most (layout_bytes s o d a b)
+saturated Constant o d a b = refl
+saturated Letter o d a b = refl
+saturated Unary o d a b = omega arith
+saturated Binary o d a b = omega arith
 
 -- by what the code looks up
-pub bytes_by : (w k s o a b v : ℕ) → k ≡ kind w → s ≡ get_or sorts k 0 → o ≡ get_or owns k 0 → v ≡ min most (sort_bytes s o (length (decimal (right w))) a b)
-    → v ≡ word_bytes w a b
+pub bytes_by : (w k : ℕ) (s : Layout) (o a b v : ℕ) → k ≡ kind w → s ≡ layout_of (shape k) → o ≡ get_or owns k 0
+    → v ≡ min most (layout_bytes s o (length (decimal (right w))) a b) → v ≡ word_bytes w a b
 unfolding word_bytes
 bytes_by w k s o a b v ek es eo e = rw (← ek, ← es, ← eo) e
 
@@ -94,38 +97,13 @@ word-counted : (w a b : ℕ) → kind w < 16 → (φ ψ : Formula) → a ≡ cou
 unfolding word_bytes
 word-counted w a b h φ ψ ea eb =
     rw (ea, eb, all_long (kind w) h (right w) φ ψ)
-    (saturated (get_or sorts (kind w) 0) (get_or owns (kind w) 0) (length (decimal (right w))) (length (typed φ)) (length (typed ψ)))
-
-pub sorted : (s o d a b : ℕ) → (s ≡ 0 → ⊥) → (s ≡ 1 → ⊥) → (s ≡ 2 → ⊥) → sort_bytes s o d a b ≡ o + a + b
-sorted zero o d a b p q r = absurd (p refl)
-sorted (suc zero) o d a b p q r = absurd (q refl)
-sorted (suc (suc zero)) o d a b p q r = absurd (r refl)
-sorted (suc (suc (suc s))) o d a b p q r = refl
+    (saturated (layout_of (shape (kind w))) (get_or owns (kind w) 0) (length (decimal (right w))) (length (typed φ)) (length (typed ψ)))
 
 -- an operand's count, from those of the words before
-pub operand-counted : (φs : List Formula) (n : ℕ) → earlier (map counted φs) n ≡ counted (formula_of φs n)
+operand-counted : (φs : List Formula) (n : ℕ) → earlier (map counted φs) n ≡ counted (formula_of φs n)
 unfolding formula_of typed
 operand-counted φs zero = refl
 operand-counted φs (suc i) = get_or-map counted φs i (const false)
-
-get_d_default : (l : List ℕ) (i d e : ℕ) → i < length l → get_or l i d ≡ get_or l i e
-get_d_default [] i d e k = absurd (omega arith)
-get_d_default (x ∷ l) zero d e k = refl
-get_d_default (x ∷ l) (suc i) d e k = get_d_default l i d e (omega arith)
-
-pub earlier_none : (l : List ℕ) (n : ℕ) → n ≡ 0 → 5 ≡ earlier l n
-earlier_none l zero e = refl
-earlier_none l (suc i) e = absurd (omega arith)
-
-pub earlier_past : (l : List ℕ) (n : ℕ) → length l < n → 5 ≡ earlier l n
-earlier_past l zero h = absurd (omega arith)
-earlier_past l (suc i) h = sym (get_or-eq_default l 5 (omega arith))
-
-pub earlier_at : (l : List ℕ) (j n : ℕ) → 0 < n → n ≤ j → j ≤ length l → get_or l (n - 1) 0 ≡ earlier (take j l) n
-earlier_at l j zero z h k = absurd (omega arith)
-earlier_at l j (suc i) z h k =
-    let before : suc i - 1 ≡ i = omega arith in
-    ap (λ (n : ℕ). get_or l n 0) before ∙ get_d_default l i 0 5 (omega arith) ∙ sym (get_or-take j l i 5 h)
 
 -- the count of the word at j, after those before it
 pub next_counted : (t sizes : List ℕ) (j a b : ℕ) → j < length t → get_or t j 0 < 2 ^ 32 → take j sizes ≡ map counted (take j (formulas t))

@@ -8,6 +8,7 @@ ghost use Rattle.table.specs.StepChecks.{is_undriven};
 pub fn is_undriven(word: u32, driven: usize) -> bool
     ensures { result ≡ is_undriven driven word }
 {
+    // By arms: what no arm takes is below the kinds of letters, or above them.
     match word::kind(word) {
         3..=4 => word::right(word) > driven,
         _ => false,

@@ -6,18 +6,16 @@ ghost use Rattle.refusals.specs.Refusals.{first};
 ghost use Rattle.table.specs.Checks.{use_checks};
 ghost use Rattle.use_faults.specs.Marks.{Marked};
 
-use refusals::{Outcome, Refusal};
+use refusals::Refusal;
 
-pub fn use_fault(words: &[u32], marks: &[bool]) -> Outcome
+pub fn use_fault(words: &[u32], marks: &[bool]) -> Result<(), Refusal>
     requires { (length words.now ≤ length marks.now) × Marked words.now marks.now }
     ensures { result ≡ first (use_checks words.now 1 (length words.now - 1)) }
 {
-    let mut n = 1;
-    while n < words.len() {
+    for n in 1..words.len() {
         if !marks[n] {
-            return Outcome::Refused(Refusal::Unused(n));
+            return Err(Refusal::Unused(n));
         }
-        n += 1;
     }
-    Outcome::Accepted
+    Ok(())
 }

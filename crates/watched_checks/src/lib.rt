@@ -5,19 +5,15 @@ ghost use Rattle.std.specs.Prelude.{◌≡◌};
 ghost use Rattle.refusals.specs.Refusals.{first};
 ghost use Rattle.automaton_steps.specs.Steps.{watched_checks};
 
-use refusals::{Outcome, Refusal};
+use refusals::Refusal;
 
 // The checks of the table with its header, then 28.
-pub fn check(table: &[u32]) -> Outcome
+pub fn check(table: &[u32]) -> Result<(), Refusal>
     ensures { result ≡ first (watched_checks table.now) }
 {
-    match heading::check(table, true, 16383) {
-        Outcome::Refused(r) => Outcome::Refused(r),
-        Outcome::Accepted => {
-            if headers::is_normal(table[0]) {
-                return Outcome::Accepted;
-            }
-            Outcome::Refused(Refusal::NotDeltaTwo)
-        }
+    heading::check(table, true, 16383)?;
+    if headers::is_normal(table[0]) {
+        return Ok(());
     }
+    Err(Refusal::NotDeltaTwo)
 }

@@ -7,7 +7,6 @@ ghost use Rattle.row_words.specs.Row as rows;
 ghost use Rattle.word_carries.specs.Carried.{carried_in};
 
 use row_words::row_word::ones;
-use std::num::wrapping_add_u64;
 
 // What a sweep of n positions comes to at the first of them. The lowest bits of p, up to the first one that fails, change when 1 is added;
 // where p fails nowhere, the carry comes through.
@@ -18,7 +17,7 @@ pub fn first(g: u64, p: u64, carry: bool, n: usize) -> bool
         → p ≡ rows.pack_bits P i n
         → result ≡ sweep G P carry i n }
 {
-    let reached = g & (p ^ wrapping_add_u64(p, 1)) != 0;
+    let reached = g & (p ^ p.wrapping_add(1)) != 0;
     let kept = p == ones(n);
     reached | (kept & carry)
 }
@@ -31,5 +30,5 @@ pub fn carried(g: u64, p: u64, carry: bool, n: usize) -> u64
         → p ≡ rows.pack_bits P i n
         → result ≡ rows.pack_bits (carried_in G P carry (i + n)) i n }
 {
-    g | (p & ((carry as u64) << (n - 1)))
+    g | (p & (u64::from(carry) << (n - 1)))
 }

@@ -1,5 +1,6 @@
 -- What a class byte, and the number of the states before its word, tell of the word's states.
-use Rattle.std.specs.Prelude.{ℕ, ◌+◌, ◌<◌, ◌≡◌, Bool, false, cond, List}
+use Rattle.std.specs.Prelude.{ℕ, ◌+◌, ◌<◌, ◌≡◌, Bool, cond, List, None, IfSome}
+use Rattle.std.specs.Bool.{then_some}
 use Rattle.logic.specs.Bit.{bit}
 use Rattle.logic.specs.Formula.{Formula}
 use Rattle.automata.specs.Positive.{Positive, renamed}
@@ -13,24 +14,19 @@ use Rattle.word_states.specs.declared.Held.{Held}
 
 -- the numbers fit the field of a slot
 abbrev pub Small : Held → Type 0
-Small h = (h.first < 1048576) × (h.second < 1048576) × (h.third < 1048576)
+Small h = IfSome h.sigma (λ n. n < 1048576) × IfSome h.pi (λ n. n < 1048576) × IfSome h.further (λ n. n < 1048576)
 
 -- those of Sigma-1, Pi-1 and a class of the second level
 pub record Moving (byte start : ℕ) (upper : Bool) (h : Held) : Type 0 where
-  pub sigma : h.sigma ≡ bit byte 1
-  pub pi : h.pi ≡ bit byte 2
-  pub further : h.further ≡ bit byte (class_bit (second_class upper))
-  pub first : h.first ≡ start + offset sigma₁ byte
-  pub second : h.second ≡ start + offset pi₁ byte
-  pub third : h.third ≡ start + offset (second_class upper) byte
+  pub sigma : h.sigma ≡ then_some (bit byte 1) (start + offset sigma₁ byte)
+  pub pi : h.pi ≡ then_some (bit byte 2) (start + offset pi₁ byte)
+  pub further : h.further ≡ then_some (bit byte (class_bit (second_class upper))) (start + offset (second_class upper) byte)
 
 -- those of both classes of its level
 pub record Starting (byte start : ℕ) (h : Held) : Type 0 where
-  pub sigma : h.sigma ≡ bit byte (level byte)
-  pub pi : h.pi ≡ bit byte (level byte + 1)
-  pub further : h.further ≡ false
-  pub first : h.first ≡ start + 1
-  pub second : h.second ≡ start + cond (bit byte (level byte)) 2 1
+  pub sigma : h.sigma ≡ then_some (bit byte (level byte)) (start + 1)
+  pub pi : h.pi ≡ then_some (bit byte (level byte + 1)) (start + cond (bit byte (level byte)) 2 1)
+  pub further : h.further ≡ None
 
 -- a positive formula over the numbers of states, as a formula
 abbrev pub shown : List ℕ → Positive State → Formula

@@ -8,15 +8,12 @@ ghost use Rattle.word_states.specs.States.{Small, Moving, Starting};
 
 use class_bits::{after, bit_of, in_second, level_of};
 
-// Whether there is a state of a Sigma class, of the Pi class of its level, and of a further class, and their numbers.
+// The numbers of the states of a Sigma class, of the Pi class of its level, and of a further class, where the word has them.
 #[derive(Clone, Copy)]
 pub struct Held {
-    pub sigma: bool,
-    pub pi: bool,
-    pub further: bool,
-    pub first: usize,
-    pub second: usize,
-    pub third: usize,
+    pub sigma: Option<usize>,
+    pub pi: Option<usize>,
+    pub further: Option<usize>,
 }
 
 fn third_state(byte: u8, start: usize, pi: bool) -> usize
@@ -36,12 +33,9 @@ pub fn moving(byte: u8, start: usize, pi: bool) -> Held
 {
     let sigma = bit_of(byte, 1);
     Held {
-        sigma: sigma,
-        pi: bit_of(byte, 2),
-        further: in_second(byte, pi),
-        first: start + 1,
-        second: after(start, sigma),
-        third: third_state(byte, start, pi),
+        sigma: sigma.then_some(start + 1),
+        pi: bit_of(byte, 2).then_some(after(start, sigma)),
+        further: in_second(byte, pi).then_some(third_state(byte, start, pi)),
     }
 }
 
@@ -53,11 +47,8 @@ pub fn starting(byte: u8, start: usize) -> Held
     let low = level_of(byte);
     let sigma = bit_of(byte, low);
     Held {
-        sigma: sigma,
-        pi: bit_of(byte, low + 1),
-        further: false,
-        first: start + 1,
-        second: after(start, sigma),
-        third: 0,
+        sigma: sigma.then_some(start + 1),
+        pi: bit_of(byte, low + 1).then_some(after(start, sigma)),
+        further: None,
     }
 }

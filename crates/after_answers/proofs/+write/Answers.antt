@@ -1,8 +1,5 @@
-use Prim.Native.Nat.{ℕ, ◌<◌}
 use native.Mathlib.Omega.{arith}
 use mathlib.Core.Path.{sym}
-use lib.ListN.{length}
-use borrow.Author.Rules.{rules}
 use Rattle.table.proofs.Accepted.{table-few}
 use Rattle.placing.proofs.Written.{lent_length}
 use Rattle.after_answers.proofs.Lent.{written_part}
@@ -24,17 +21,22 @@ write-requires t c = (
 )
 
 pub returns-then-slots-res : goal.returns-then-slots-res
-returns-then-slots-res t c = written_part _ _ _ c.requires c.if-slots-res.true c.write.ensures
+returns-then-slots-res t c = written_part _ _ _ _ c.requires c.if-slots-res.true _ c.write.ensures
 
-pub of_64-requires : goal.of_64-requires
-of_64-requires t c = record { accepted = c.requires; few = omega arith; lent = omega arith }
+pub write_in-requires : goal.write_in-requires
+write_in-requires t c = record {
+  asked = record { accepted = c.requires; few = omega arith; lent = omega arith };
+  index = (omega arith, omega arith, omega arith);
+}
 
-pub of_512-requires : goal.of_512-requires
-of_512-requires t c = record { accepted = c.requires; few = omega arith; lent = omega arith }
+pub write_in-requires-then-table-le512 : goal.write_in-requires-then-table-le512
+write_in-requires-then-table-le512 t c = record {
+  asked = record { accepted = c.requires; few = omega arith; lent = omega arith };
+  index = (omega arith, omega arith, omega arith);
+}
 
-pub of_16383-requires : goal.of_16383-requires
-of_16383-requires t c = record {
-  accepted = c.requires;
-  few = table-few _ c.requires;
-  lent = omega arith;
+pub write_in-requires-2 : goal.write_in-requires-2
+write_in-requires-2 t c = record {
+  asked = record { accepted = c.requires; few = omega (arith, table-few _ c.requires); lent = omega arith };
+  index = (omega arith, omega arith, omega arith);
 }

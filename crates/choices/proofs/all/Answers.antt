@@ -1,54 +1,42 @@
+use Rattle.std.proofs.Common.{◌≡◌, ◌+◌, ◌-◌, arith}
 use Rattle.transforms.specs.NormalForm.{choices_of, choices}
 use Rattle.true_parts.proofs.Looks.{shifted}
 use Rattle.part_sums.proofs.Parts.{joinable_again}
-use Rattle.choices.proofs.ChoiceOrder.{counted_start, choice-inside, choice_less, counted-choice, counted-row, row_less, none_grown, next_grown, row-grown, all_summed}
+use Rattle.choices.proofs.ChoiceOrder.{none_grown, row_begun, next_grown, row-grown, all_summed, full_summed}
 use Rattle.choices.proofs.all.Goals as goal
 
 pub loop-ones-init : goal.loop-ones-init
-loop-ones-init c =
-    let q = c.requires.joinable in
-    let limit = shifted c.args.bits c.requires.by_index.1 in
-    record { counted = counted_start c.args.bits limit; laid = q.ready.fillable.laid; grown = none_grown c.args.table.now c.args.bits limit q.numbered }
+loop-ones-init c = let q = c.requires.joinable in record { laid = q.ready.fillable.laid; grown = none_grown c.args.table.now c.args.bits q.numbered }
 
-pub overflow_sub-choice : goal.overflow_sub-choice
-overflow_sub-choice c = c.loop-ones.invariant.counted.some
+pub returns-in_err-sum : goal.returns-in_err-sum
+unfolding choices
+returns-in_err-sum c =
+    let q = c.requires.by_index in
+    let inv = c.loop-choice.invariant in
+    rw c.from_residual.ensures (full_summed c.args.table.now c.args.bits q.0 _ _ _ c.loop-ones.ones (c.loop-choice.choice - 1) (shifted c.args.bits q.1) (omega arith) (omega arith)
+    (next_grown c.args.table.now c.args.bits _ c.loop-ones.ones c.loop-choice.choice c.loop-choice-test.true (omega arith) inv.grown c.in_err-sum.ensures.grown))
 
-pub with_part-sum-requires : goal.with_part-sum-requires
-with_part-sum-requires c =
-    let inv = c.loop-ones.invariant in
-    let kept = c.loop-ones.auto in
-    let q = c.requires in
+pub loop-choice-preserved : goal.loop-choice-preserved
+loop-choice-preserved c =
+    let done = c.in_ok-sum.ensures in
     record {
-      joinable = joinable_again q.joinable kept.draft kept.folded kept.numbers kept.stack inv.laid inv.grown.numbered;
-      untrue = (q.by_index.0 _ (choice-inside inv.counted (shifted c.args.bits q.by_index.1)), inv.grown.small);
-    }
-
-pub loop-ones-smaller-then-choice-eq0 : goal.loop-ones-smaller-then-choice-eq0
-loop-ones-smaller-then-choice-eq0 c = row_less c.loop-ones.invariant.counted c.loop-ones-test.true
-
-pub loop-ones-preserved-then-choice-eq0 : goal.loop-ones-preserved-then-choice-eq0
-loop-ones-preserved-then-choice-eq0 c =
-    let inv = c.loop-ones.invariant in
-    let done = c.with_part-sum.ensures in
-    record {
-      counted = counted-row inv.counted c.loop-ones-test.true;
       laid = done.laid;
-      grown = row-grown _ _ _ _ _ inv.counted (shifted c.args.bits c.requires.by_index.1) c.if-choice-eq0.true inv.grown done.grown;
+      grown = next_grown c.args.table.now c.args.bits _ c.loop-ones.ones c.loop-choice.choice c.loop-choice-test.true (omega arith) c.loop-choice.invariant.grown done.grown;
     }
-
-pub loop-ones-smaller : goal.loop-ones-smaller
-loop-ones-smaller c = choice_less c.loop-ones.invariant.counted
 
 pub loop-ones-preserved : goal.loop-ones-preserved
 loop-ones-preserved c =
-    let inv = c.loop-ones.invariant in
-    let done = c.with_part-sum.ensures in
+    let inv = c.loop-choice.invariant in
+    let none : c.loop-choice.choice ≡ 0 = omega arith in
     record {
-      counted = counted-choice inv.counted c.loop-ones-test.true c.if-choice-eq0.false;
-      laid = done.laid;
-      grown = next_grown _ _ _ _ _ inv.counted inv.grown done.grown;
+      laid = inv.laid;
+      grown = row-grown c.args.table.now c.args.bits _ c.loop-ones.ones (shifted c.args.bits c.requires.by_index.1) (rw none at inv.grown);
     }
 
-pub returns : goal.returns
-unfolding choices choices_of
-returns c = let inv = c.loop-ones.invariant in all_summed _ _ _ _ _ inv.counted c.loop-ones-test.false inv.grown
+pub returns-2 : goal.returns-2
+unfolding choices
+returns-2 c =
+    let inv = c.loop-choice.invariant in
+    let none : c.loop-choice.choice ≡ 0 = omega arith in
+    all_summed c.args.table.now c.args.bits (c.loop-ones.ones + 1) (omega arith)
+    (row-grown c.args.table.now c.args.bits _ c.loop-ones.ones (shifted c.args.bits c.requires.by_index.1) (rw none at inv.grown))

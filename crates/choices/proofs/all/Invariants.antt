@@ -1,19 +1,20 @@
 -- The parts of the choices so far are joined.
-use Rattle.std.proofs.Common.{length}
+use Rattle.std.proofs.Common.{length, Some, None}
 use Rattle.placing.specs.State.{state}
 use Rattle.choosing.specs.Filled.{Laid}
-use Rattle.sums.specs.declared.Sum.TheVariants.{Nothing}
 use Rattle.sums.specs.Summed.{Grown}
 use Rattle.part_sums.specs.Joining.{joined}
-use Rattle.choices.proofs.ChoiceOrder.{so_far, Counted, turns}
+use Rattle.choices.proofs.ChoiceOrder.{fewer, so_far}
 use Rattle.choices.proofs.all.Given as goal
 
 abbrev pub invariant-loop-ones : goal.invariant-loop-ones
 invariant-loop-ones l = record {
-  counted : Counted l.bits l.limit l.ones l.choice;
   laid : Laid l.table l.draft (length l.table);
-  grown : Grown (joined l.table (so_far l.bits l.limit l.ones l.choice)) (state l.initial.out l.initial.index) (state l.out l.index) Nothing l.sum;
+  grown : Grown (joined l.table (fewer l.bits l.ones)) (state l.fn.out l.fn.index) (state l.out l.index) None (Some l.sum);
 }
 
-abbrev pub decreases-loop-ones : goal.decreases-loop-ones
-decreases-loop-ones l = turns l.bits l.limit l.ones l.choice
+abbrev pub invariant-loop-choice : goal.invariant-loop-choice
+invariant-loop-choice l = record {
+  laid : Laid l.table l.draft (length l.table);
+  grown : Grown (joined l.table (so_far l.bits l.limit l.ones l.choice)) (state l.fn.out l.fn.index) (state l.out l.index) None (Some l.sum);
+}

@@ -3,13 +3,10 @@ use Rattle.sums.specs.Summed.{Summed}
 use Rattle.closed_sums.proofs.Closing.{close-nothing}
 use Rattle.closed_sums.proofs.close.Goals as goal
 
-pub returns-in-Nothing : goal.returns-in-Nothing
-returns-in-Nothing c =
+pub returns-in-None : goal.returns-in-None
+returns-in-None c =
     λ s₀ χ p.
-    close-nothing χ (subst (Summed s₀ _ χ) c.in-Nothing.is p) c.pack.ensures c.put.ensures
+    close-nothing s₀ _ _ _ χ (subst (Summed s₀ _ χ) c.in-None.is p) c.pack.ensures _ c.put.ensures
 
-pub returns-in-Full : goal.returns-in-Full
-returns-in-Full c s₀ χ p = (subst (Summed s₀ _ χ) c.in-Full.is p).1
-
-pub returns-in-At : goal.returns-in-At
-returns-in-At c s₀ χ p = (subst (Summed s₀ _ χ) c.in-At.is p).2
+pub returns-in-Some : goal.returns-in-Some
+returns-in-Some c s₀ χ p = let q = subst (Summed s₀ _ χ) c.in-Some.is p in (q.1, q.2)

@@ -2,7 +2,8 @@
 use mathlib.Core.Path.{◌≡◌, sym, ap, ◌∙◌}
 use Prim.Native.Nat.{ℕ}
 use lib.ListN.{length}
-use Rattle.refusals.specs.declared.Outcome.TheVariants.{Accepted}
+use Rattle.std.specs.Prelude.{Ok}
+use Rattle.std.proofs.lemmas.Result.{err_from_is_err_and}
 use Rattle.refusals.specs.Refusals.{first}
 use Rattle.logic.specs.Lasso.{lasso_of}
 use Rattle.agreement.specs.Comparing.{comparison_checks, compared}
@@ -11,18 +12,19 @@ use Rattle.comparing.proofs.compare.Goals as goal
 
 pub first_difference-requires : goal.first_difference-requires
 first_difference-requires c =
-    let passed : first (comparison_checks (length c.args.samples.now) c.args.start c.args.driven (length c.args.others.now) c.args.other_start c.args.other_driven) ≡ Accepted = sym c.in-Accepted.ensures in
+    let passed : first (comparison_checks (length c.args.samples.now) c.args.start c.args.driven (length c.args.others.now) c.args.other_start c.args.other_driven) ≡ Ok tt = sym c.in_ok-check_both.ensures in
     let facts : Comparable c.args.samples.now c.args.start c.args.driven c.args.others.now c.args.other_start c.args.other_driven = comparable _ _ _ _ _ _ passed in
     let f = facts in (f.few_samples, f.few_samples', f.inside, f.inside', f.few)
 
-pub returns-in-Refused : goal.returns-in-Refused
-returns-in-Refused c =
+pub returns-in_err-check_both : goal.returns-in_err-check_both
+returns-in_err-check_both c =
     let a = c.args in
-    sym (refused a.samples.now a.start a.driven a.others.now a.other_start a.other_driven _ (sym c.in-Refused.ensures))
+    let p = err_from_is_err_and c.from_residual.result c.from_residual.ensures.1 in
+    rw (p.1, p.2) (sym (refused a.samples.now a.start a.driven a.others.now a.other_start a.other_driven _ (sym c.in_err-check_both.ensures)))
 
-pub returns-in-Accepted : goal.returns-in-Accepted
-returns-in-Accepted c =
-    let passed : first (comparison_checks (length c.args.samples.now) c.args.start c.args.driven (length c.args.others.now) c.args.other_start c.args.other_driven) ≡ Accepted = sym c.in-Accepted.ensures in
+pub returns : goal.returns
+returns c =
+    let passed : first (comparison_checks (length c.args.samples.now) c.args.start c.args.driven (length c.args.others.now) c.args.other_start c.args.other_driven) ≡ Ok tt = sym c.in_ok-check_both.ensures in
     let facts : Comparable c.args.samples.now c.args.start c.args.driven c.args.others.now c.args.other_start c.args.other_driven = comparable _ _ _ _ _ _ passed in
     let a = c.args in
     c.first_difference.ensures

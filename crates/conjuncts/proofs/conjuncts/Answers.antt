@@ -2,7 +2,7 @@ use Rattle.std.proofs.Common.{arith}
 use Rattle.conjuncts.proofs.Conjoining.{joining_none, joining_other, joining_left, joining_room, joining_taken, joining_all}
 use Rattle.fixpoints.proofs.Positions.{kept_small}
 use Rattle.conjuncts.proofs.conjuncts.Goals as goal
-use Rattle.conjuncts.proofs.conjuncts.Goals.{then-is+then-chosen, then-is+else-chosen, else-is}
+use Rattle.conjuncts.proofs.conjuncts.Goals.{then-is+then-chosen, else-is, else-is-via-then-is+else-chosen, else-is-via-else-is}
 
 pub loop-i-init : goal.loop-i-init
 loop-i-init c = joining_none c.requires
@@ -24,8 +24,10 @@ loop-i-preserved c =
     let g = c.is.ensures in
     elim c.if-is.branch [
       | then-is+then-chosen x ↦ rw (x.draft-is, x.next-is) (joining_taken q s h g x.if-is.true x.chosen.ensures x.if-chosen.true x.conjoin-next.ensures)
-      | then-is+else-chosen x ↦ rw (x.draft-is, x.next-is) (joining_left q s h g x.if-is.true x.chosen.ensures x.if-chosen.false)
-      | else-is x ↦ rw (x.draft-is, x.next-is) (joining_other q s h g x.if-is.false)
+      | else-is x ↦ rw (x.draft-is, x.next-is) (elim x.else-is.branch [
+        | else-is-via-then-is+else-chosen y ↦ joining_left q s h g y.if-is.true y.chosen.ensures y.if-chosen.false
+        | else-is-via-else-is y ↦ joining_other q s h g y.if-is.false
+      ])
     ]
 
 pub returns : goal.returns

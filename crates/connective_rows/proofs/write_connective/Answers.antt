@@ -1,5 +1,4 @@
 -- In each arm the connective is the one that its loop is given.
-use borrow.Author.Rules.{rules}
 use Rattle.connective_rows.proofs.write_connective.Goals as goal
 
 pub returns-in-Never : goal.returns-in-Never

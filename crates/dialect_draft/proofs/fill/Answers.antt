@@ -1,24 +1,9 @@
-use native.Mathlib.Omega.{arith}
-use mathlib.Core.Path.{◌≡◌, refl, ◌∙◌}
-use lib.ListN.{length}
-use Rattle.dialect_slots.proofs.Forms.{none_filled, next_word}
+use Rattle.std.proofs.Common.{true, arith}
 use Rattle.dialect_draft.proofs.fill.Goals as goal
 
-pub loop-j-init : goal.loop-j-init
-loop-j-init c = (omega arith, refl, none_filled _ _)
-
 pub convert_word-requires : goal.convert_word-requires
-convert_word-requires c =
-    let inv = c.loop-j.invariant in
-    next_word c.requires inv.1 inv.2 c.loop-j-test.true
-
-pub loop-j-preserved : goal.loop-j-preserved
-loop-j-preserved c =
-    let inv = c.loop-j.invariant in
-    (omega arith, c.convert_word.auto.draft ∙ inv.1, c.convert_word.ensures)
-
-pub returns : goal.returns
-returns c =
-    let inv = c.loop-j.invariant in
-    let all : length c.args.table.now ≡ c.loop-j.j = omega arith in
-    rw all inv.2
+convert_word-requires c = record {
+  room = record { accepted = c.requires.accepted; slots = omega (arith, c.requires.slots); few = omega (arith, c.requires.few) };
+  word = record { plain = true; limit = 16383; accepted = c.requires.accepted; positive = omega arith; inside = omega arith };
+  before = λ i p b. c.loop-j.invariant.form i p (omega arith);
+}

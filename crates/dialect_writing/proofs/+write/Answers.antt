@@ -14,13 +14,25 @@ pub write-requires : goal.write-requires
 write-requires t c = (omega (arith, c.decreases, lent_length _ c.args.res.now c.if-slots-res.true), c.requires)
 
 pub returns-then-slots-res : goal.returns-then-slots-res
-returns-then-slots-res t c = written_part _ _ c.requires c.if-slots-res.true c.write.ensures
+returns-then-slots-res t c = written_part _ _ _ c.requires c.if-slots-res.true _ c.write.ensures
 
-pub of_64-requires : goal.of_64-requires
-of_64-requires t c = record { accepted = c.requires; few = omega arith; lent = omega arith }
+pub write_in-requires : goal.write_in-requires
+write_in-requires t c = record {
+  asked = record { accepted = c.requires; few = omega arith; lent = omega arith };
+  slots = omega arith;
+  index = (omega arith, omega arith, omega arith);
+}
 
-pub of_512-requires : goal.of_512-requires
-of_512-requires t c = record { accepted = c.requires; few = omega arith; lent = omega arith }
+pub write_in-requires-then-table-le512 : goal.write_in-requires-then-table-le512
+write_in-requires-then-table-le512 t c = record {
+  asked = record { accepted = c.requires; few = omega arith; lent = omega arith };
+  slots = omega arith;
+  index = (omega arith, omega arith, omega arith);
+}
 
-pub of_16383-requires : goal.of_16383-requires
-of_16383-requires t c = record { accepted = c.requires; few = table-few _ c.requires; lent = omega arith }
+pub write_in-requires-2 : goal.write_in-requires-2
+write_in-requires-2 t c = record {
+  asked = record { accepted = c.requires; few = omega (arith, table-few _ c.requires); lent = omega arith };
+  slots = omega arith;
+  index = (omega arith, omega arith, omega arith);
+}

@@ -27,43 +27,42 @@ next_place n start i p h e f =
 pub loop-i-init : goal.loop-i-init
 loop-i-init c =
     let a = c.args in
-    let zero : c.window-moments.result - 0 ≡ window (length a.samples.now) a.start (length a.others.now) a.other_start = omega arith in (
-      omega arith,
-      omega arith,
-      omega arith,
-      sym (place_below (length a.samples.now) a.start 0 (omega arith)),
-      sym (place_below (length a.others.now) a.other_start 0 (omega arith)),
-      ap (difference_in a.driven (reading a.samples.now a.start) (reading a.others.now a.other_start) 0) (sym zero),
-    )
+    let zero : c.window-moments.result - 0 ≡ window (length a.samples.now) a.start (length a.others.now) a.other_start = omega arith in record {
+      at_inside = omega arith;
+      other_inside = omega arith;
+      at_place = sym (place_below (length a.samples.now) a.start 0 (omega arith));
+      other_place = sym (place_below (length a.others.now) a.other_start 0 (omega arith));
+      searched = ap (difference_in a.driven (reading a.samples.now a.start) (reading a.others.now a.other_start) 0) (sym zero);
+    }
 
 pub returns-then-not-alike : goal.returns-then-not-alike
 returns-then-not-alike c =
     let a = c.args in
     let inv = c.loop-i.invariant in
     sym (compared-reading a.samples.now a.start a.others.now a.other_start a.driven c.requires.2 c.requires.3 c.requires.4
-    ∙ inv.5
+    ∙ inv.searched
     ∙ passed_differ _ _ _ _ _ c.loop-i-test.true
-    (sym (told _ _ a.start a.other_start _ _ _ _ (c.alike.ensures a.driven c.driven_bits-bits.ensures) inv.3 inv.4) ∙ c.if-not-alike.true))
+    (sym (told _ _ a.start a.other_start _ _ _ _ (c.alike.ensures a.driven c.driven_bits-bits.ensures) inv.at_place inv.other_place) ∙ c.if-not-alike.true))
 
 pub loop-i-preserved : goal.loop-i-preserved
 loop-i-preserved c =
     let a = c.args in
     let inv = c.loop-i.invariant in
-    let at = next_place (length a.samples.now) a.start c.loop-i.i _ c.requires.2 inv.3 c.following-at.ensures in
-    let other = next_place (length a.others.now) a.other_start c.loop-i.i _ c.requires.3 inv.4 c.following-other.ensures in (
-      omega arith,
-      omega (arith, at, place_lt (length a.samples.now) a.start (c.loop-i.i + 1) c.requires.2),
-      omega (arith, other, place_lt (length a.others.now) a.other_start (c.loop-i.i + 1) c.requires.3),
-      at,
-      other,
-      inv.5
+    let at = next_place (length a.samples.now) a.start c.loop-i.i _ c.requires.2 inv.at_place c.following-at.ensures in
+    let other = next_place (length a.others.now) a.other_start c.loop-i.i _ c.requires.3 inv.other_place c.following-other.ensures in record {
+      at_inside = omega (arith, at, place_lt (length a.samples.now) a.start (c.loop-i.i + 1) c.requires.2);
+      other_inside = omega (arith, other, place_lt (length a.others.now) a.other_start (c.loop-i.i + 1) c.requires.3);
+      at_place = at;
+      other_place = other;
+      searched =
+          inv.searched
           ∙ passed_same _ _ _ _ _ c.loop-i-test.true
-          (sym (told _ _ a.start a.other_start _ _ _ _ (c.alike.ensures a.driven c.driven_bits-bits.ensures) inv.3 inv.4) ∙ c.if-not-alike.false),
-    )
+          (sym (told _ _ a.start a.other_start _ _ _ _ (c.alike.ensures a.driven c.driven_bits-bits.ensures) inv.at_place inv.other_place) ∙ c.if-not-alike.false);
+    }
 
 pub returns : goal.returns
 returns c =
     let a = c.args in
     sym (compared-reading a.samples.now a.start a.others.now a.other_start a.driven c.requires.2 c.requires.3 c.requires.4
-    ∙ c.loop-i.invariant.5
+    ∙ c.loop-i.invariant.searched
     ∙ passed_all _ _ _ _ _ c.loop-i-test.false)

@@ -1,8 +1,8 @@
 -- Where the root has a number, it is that of its formula. Otherwise a turn pushes what the top of the stack needs next, or places its word.
-use Rattle.std.proofs.Common.{◌-◌, ◌<◌, length, get_or, sym, arith}
+use Rattle.std.proofs.Common.{◌-◌, ◌<◌, length, get_or, refl, sym, arith}
 use Rattle.std.proofs.Math.ListN.{length-set}
 use Rattle.placing.proofs.Placing.{placing_again}
-use Rattle.draft_numbering.proofs.Room.{zero_of, positive, above_one, low, popped}
+use Rattle.draft_numbering.proofs.Room.{zero_of, above_one, low, popped}
 use Rattle.draft_numbering.proofs.Zeros.{zeros-set}
 use Rattle.draft_numbering.proofs.Going.{going_start, going_push, going-full, going_done, going_pop, going-low, going_none, going_turnable, going-earlier, root_within}
 use Rattle.draft_numbering.proofs.number.Goals as goal
@@ -15,10 +15,13 @@ bounds-numbers-root c = omega (arith, root_within c.requires.numberable)
 
 pub returns-then-known-gt0 : goal.returns-then-known-gt0
 returns-then-known-gt0 c =
-    let pre = c.requires.numberable in record {
-      placed = λ φ f. placing_again φ _ c.requires.numbered (pre.remembered.held _ φ f c.if-known-gt0.true);
-      remembered = λ l. pre.remembered;
-    }
+    let pre = c.requires.numberable in (
+      c.if-known-gt0.true,
+      record {
+        placed = λ φ f. placing_again φ _ c.requires.numbered (pre.remembered.held _ φ f c.if-known-gt0.true);
+        remembered = λ l. pre.remembered;
+      },
+    )
 
 pub overflow_cast-stack : goal.overflow_cast-stack
 overflow_cast-stack c = omega (arith, root_within c.requires.numberable)
@@ -61,17 +64,18 @@ loop-i-preserved-in-Operand c =
     let g = going_push pre.few inv.going pre.formula pre.drafted j higher turned in
     record { inside = inv.inside; low = going-low pre.few g pre.formula pre.drafted; going = g }
 
-pub returns-then-n-eq0 : goal.returns-then-n-eq0
-returns-then-n-eq0 c =
+pub returns-in_err-n-in-Word : goal.returns-in_err-n-in-Word
+returns-in_err-n-in-Word c =
     let inv = c.loop-i.invariant in
     let within : get_or c.loop-i.stack (c.loop-i.height - 1) 0 < length c.loop-i.numbers = omega (arith, inv.going.some) in
-    going-full c.requires.numberable.few inv.going _ within (sym c.in-Word.ensures) c.put-n.ensures _ c.if-n-eq0.true
+    rw c.from_residual.ensures (going-full c.requires.numberable.few inv.going _ within (sym c.in-Word.ensures) c.in_err-n-in-Word.ensures c.loop-i.numbers refl)
 
 pub returns-then-height-eq1 : goal.returns-then-height-eq1
 returns-then-height-eq1 c =
     let inv = c.loop-i.invariant in
     let within : get_or c.loop-i.stack (c.loop-i.height - 1) 0 < length c.loop-i.numbers = omega (arith, inv.going.some) in
-    going_done c.requires.numberable.few inv.going _ within (sym c.in-Word.ensures) c.put-n.ensures (positive c.if-n-eq0.false) c.if-height-eq1.true
+    let put = c.in_ok-n-in-Word.ensures in
+    (put.0, going_done c.requires.numberable.few inv.going _ within (sym c.in-Word.ensures) put.1 put.0 c.if-height-eq1.true)
 
 pub loop-i-smaller : goal.loop-i-smaller
 loop-i-smaller c =
@@ -80,12 +84,13 @@ loop-i-smaller c =
     let within : get_or c.loop-i.stack (c.loop-i.height - 1) 0 < length c.loop-i.numbers = omega (arith, inv.going.some) in
     let none = going_none pre.few inv.going pre.formula pre.drafted in
     popped (low c.args.root inv.going.some inv.low inv.inside)
-    (zeros-set c.loop-i.numbers (get_or c.loop-i.stack (c.loop-i.height - 1) 0) c.put-n.result within none (positive c.if-n-eq0.false))
+    (zeros-set c.loop-i.numbers (get_or c.loop-i.stack (c.loop-i.height - 1) 0) c.in_ok-n-in-Word.n within none c.in_ok-n-in-Word.ensures.0)
 
 pub loop-i-preserved : goal.loop-i-preserved
 loop-i-preserved c =
     let pre = c.requires.numberable in
     let inv = c.loop-i.invariant in
     let within : get_or c.loop-i.stack (c.loop-i.height - 1) 0 < length c.loop-i.numbers = omega (arith, inv.going.some) in
-    let g = going_pop pre.few inv.going _ within (sym c.in-Word.ensures) c.put-n.ensures (positive c.if-n-eq0.false) (above_one inv.going.some c.if-height-eq1.false) in
+    let put = c.in_ok-n-in-Word.ensures in
+    let g = going_pop pre.few inv.going _ within (sym c.in-Word.ensures) put.1 put.0 (above_one inv.going.some c.if-height-eq1.false) in
     record { inside = inv.inside; low = going-low pre.few g pre.formula pre.drafted; going = g }

@@ -2,7 +2,6 @@
 use mathlib.Core.Path.{refl}
 use borrow.Author.Tests.{eq-eqb, ne_eqb, le-leb, lt-leb}
 use Rattle.field_checks.proofs.First.{refused}
-use borrow.Author.Rules.{rules}
 use Rattle.field_checks.proofs.operand_fault.Goals as goal
 
 pub returns-then-operand-eq0 : goal.returns-then-operand-eq0

@@ -1,38 +1,17 @@
-use Prim.Native.Nat.{◌-◌}
-use mathlib.Core.Logic.{⊎_elim}
-use lib.ListN.{length}
 use native.Mathlib.Omega.{arith}
-use borrow.Author.Rules.{rules}
-use Rattle.fixpoint_checks.proofs.Counting.{Counting, counting_none, counting_taken, counting_left, counting_past, counting_all}
+use Rattle.fixpoint_checks.proofs.Counting.{counting_none, counting_taken, counting_left, counting_past, counting_all}
 use Rattle.fixpoint_checks.proofs.past.Goals as goal
 use Rattle.fixpoint_checks.proofs.past.Goals.{then-is_fixpoint+else-found-limit, else-is_fixpoint}
 
 pub loop-i-init : goal.loop-i-init
 loop-i-init c = counting_none _ _
 
-pub offset_bounds-table-i : goal.offset_bounds-table-i
-offset_bounds-table-i c = search rules
-
-pub bounds-table-i : goal.bounds-table-i
-bounds-table-i c = c.loop-i-test.true
-
-pub is_fixpoint-requires : goal.is_fixpoint-requires
-is_fixpoint-requires c = search rules
-
-pub overflow_add-result : goal.overflow_add-result
-overflow_add-result c = search rules
-
 pub returns-then-found-limit : goal.returns-then-found-limit
-returns-then-found-limit c = counting_past c.loop-i.invariant c.loop-i-test.true c.is_fixpoint.ensures c.if-is_fixpoint.true c.if-found-limit.true
+returns-then-found-limit c =
+    (omega arith, counting_past c.loop-i.invariant c.loop-i-test.true c.is_fixpoint.ensures c.if-is_fixpoint.true c.if-found-limit.true)
 
 pub overflow_add-found : goal.overflow_add-found
 overflow_add-found c = omega (arith, c.loop-i.invariant.few)
-
-pub overflow_add-i : goal.overflow_add-i
-overflow_add-i c = search rules
-
-pub loop-i-smaller : goal.loop-i-smaller
-loop-i-smaller c = omega (arith, c.loop-i-test.true)
 
 pub loop-i-preserved : goal.loop-i-preserved
 loop-i-preserved c =

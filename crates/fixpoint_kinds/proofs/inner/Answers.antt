@@ -1,6 +1,5 @@
 use native.Mathlib.Omega.{arith}
 use mathlib.Core.Path.{ap, ◌∙◌}
-use borrow.Author.Rules.{rules}
 use Rattle.form_places.specs.Places.{finally_slot, globally_slot}
 use Rattle.fixpoint_kinds.proofs.inner.Goals as goal
 

@@ -10,11 +10,8 @@ use Rattle.table.proofs.Accepted.{accepted-well-formed}
 use Rattle.table.specs.StepChecks.{is_fixpoint_word}
 use Rattle.fixpoints.specs.Positions.{bit_of}
 use Rattle.fixpoints.proofs.UntilLike.{bits_all}
-use Rattle.fixpoints.proofs.Positions.{Keeping, keeping_none, one_taken, one_left, keeping-bits, keeping-few, keeping_more, keeping_all}
+use Rattle.fixpoints.proofs.Positions.{Keeping, keeping_none, keeping-bits, keeping-few, keeping_more, keeping_all}
 use Rattle.fixpoints.proofs.count.Given as goal
 
 abbrev pub invariant-loop-i : goal.invariant-loop-i
 invariant-loop-i l = Keeping l.table l.positions l.bits l.i × (length l.positions ≡ length l.initial.positions)
-
-abbrev pub decreases-loop-i : goal.decreases-loop-i
-decreases-loop-i l = length l.table - l.i

@@ -1,5 +1,4 @@
 use mathlib.Core.Bool.{true, false}
-use borrow.Author.Rules.{rules}
 use Rattle.table.proofs.Shapes.{shape-constant}
 use Rattle.fold_rules.proofs.ByKind.{constantly_none}
 use Rattle.fold_rules.proofs.by_right.Goals as goal

@@ -3,7 +3,4 @@ use Rattle.folding.proofs.Folds.{folded_next}
 use Rattle.folding.proofs.fold.Goals as goal
 
 pub loop-i-preserved : goal.loop-i-preserved
-loop-i-preserved c = record {
-  within = omega arith;
-  folded = rw c.of-s.ensures (folded_next c.loop-i.invariant.folded (omega arith) (omega arith));
-}
+loop-i-preserved c = rw c.of.ensures (folded_next c.loop-i.invariant (omega arith) (omega arith))

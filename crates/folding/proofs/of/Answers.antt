@@ -2,17 +2,17 @@
 use Rattle.folding.proofs.Told.{told}
 use Rattle.folding.proofs.of.Goals as goal
 
-pub returns-in-Left : goal.returns-in-Left
-returns-in-Left c =
+pub returns-in-Some-Left : goal.returns-in-Some-Left
+returns-in-Some-Left c =
     told c.args.s c.args.folded.now c.left.ensures c.right.ensures c.slot_at-a.ensures c.slot_at-b.ensures c.kind.ensures c.kind-2.ensures c.kind-3.ensures
-    c.in-Left.ensures
+    (rw c.in-Some-Left.field-0-is at c.in-Some-Left.ensures)
 
-pub returns-in-Right : goal.returns-in-Right
-returns-in-Right c =
+pub returns-in-Some-Right : goal.returns-in-Some-Right
+returns-in-Some-Right c =
     told c.args.s c.args.folded.now c.left.ensures c.right.ensures c.slot_at-a.ensures c.slot_at-b.ensures c.kind.ensures c.kind-2.ensures c.kind-3.ensures
-    c.in-Right.ensures
+    (rw c.in-Some-Right.field-0-is at c.in-Some-Right.ensures)
 
-pub returns-in-Stands : goal.returns-in-Stands
-returns-in-Stands c =
+pub returns-in-None : goal.returns-in-None
+returns-in-None c =
     told c.args.s c.args.folded.now c.left.ensures c.right.ensures c.slot_at-a.ensures c.slot_at-b.ensures c.kind.ensures c.kind-2.ensures c.kind-3.ensures
-    c.in-Stands.ensures
+    c.in-None.ensures

@@ -1,11 +1,10 @@
-use borrow.Author.Rules.{rules}
 use Prim.Native.Nat.{ℕ, ◌+◌, ◌-◌, ◌<◌}
 use native.Mathlib.Omega.{arith}
 use native.Mathlib.Numerals.{add-one}
 use mathlib.Core.Path.{◌≡◌, refl, ap, ◌∙◌}
 use mathlib.Core.List.{List, [], ◌∷◌}
 use lib.ListN.{length, take, set}
-use Rattle.table.specs.declared.answer.Answer.TheVariants.{Made}
+use Rattle.std.specs.Prelude.{Ok}
 use Rattle.table.specs.Header.{header_of, body}
 use Rattle.headed_answers.proofs.finish.Goals as goal
 
@@ -16,34 +15,40 @@ put_first : (s : List ℕ) (w : ℕ) → 0 < length s → set s 0 w ≡ w ∷ bo
 put_first [] w h = absurd (omega arith)
 put_first (x ∷ s) w h = refl
 
-pub returns-then-n-eq0 : goal.returns-then-n-eq0
-returns-then-n-eq0 c = record { none = λ z. (refl, c.words.ensures); some = λ z. absurd (z c.if-n-eq0.true) }
+pub returns-in-None : goal.returns-in-None
+returns-in-None c = rw c.in-None.is (record { none = λ z. (refl, c.fill.ensures.after (λ y e. e)); some = λ z. absurd (z refl) })
 
 pub overflow_add-end : goal.overflow_add-end
 overflow_add-end c =
-    let inside : c.args.n < length c.args.res.now = c.requires.within c.if-n-eq0.false in
+    let pre = rw c.in-Some.is at c.requires in
+    let inside : c.in-Some.n < length c.args.res.now = pre.1.within (λ e. omega (arith, pre.0)) in
     omega (arith, inside)
 
 pub slice_bounds-of-end : goal.slice_bounds-of-end
 slice_bounds-of-end c =
-    let inside : c.args.n < length c.args.res.now = c.requires.within c.if-n-eq0.false in
+    let pre = rw c.in-Some.is at c.requires in
+    let inside : c.in-Some.n < length c.args.res.now = pre.1.within (λ e. omega (arith, pre.0)) in
     omega (arith, inside)
 
 pub of-requires : goal.of-requires
 of-requires c =
-    rw (same-words c.args.n c.args.res.now) (c.requires.words c.if-n-eq0.false)
+    let pre = rw c.in-Some.is at c.requires in
+    rw (same-words c.in-Some.n c.args.res.now) (pre.1.words (λ e. omega (arith, pre.0)))
 
 pub bounds-res-0 : goal.bounds-res-0
 bounds-res-0 c =
-    let inside : c.args.n < length c.args.res.now = c.requires.within c.if-n-eq0.false in
+    let pre = rw c.in-Some.is at c.requires in
+    let inside : c.in-Some.n < length c.args.res.now = pre.1.within (λ e. omega (arith, pre.0)) in
     omega (arith, inside)
 
-pub returns : goal.returns
-returns c =
-    let inside : c.args.n < length c.args.res.now = c.requires.within c.if-n-eq0.false in
-    let n = c.args.n in
+pub returns-in-Some : goal.returns-in-Some
+returns-in-Some c =
+    let pre = rw c.in-Some.is at c.requires in
+    let n = c.in-Some.n in
     let s = c.args.res.now in
-    record {
-      none = λ z. absurd (c.if-n-eq0.false z);
-      some = λ z. (ap Made (add-one n), put_first s c.of.result (omega (arith, inside)) ∙ ap (λ (w : ℕ). w ∷ body s) (c.of.ensures ∙ ap header_of (same-words n s)));
-    }
+    let inside : n < length s = pre.1.within (λ e. omega (arith, pre.0)) in
+    rw c.in-Some.is
+    (record {
+      none = λ z. absurd (omega (arith, pre.0));
+      some = λ z. (ap Ok (add-one n), put_first s c.of.result (omega (arith, inside)) ∙ ap (λ (w : ℕ). w ∷ body s) (c.of.ensures ∙ ap header_of (same-words n s)));
+    })

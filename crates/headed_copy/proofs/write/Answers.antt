@@ -13,8 +13,8 @@ returns-then-res-n c =
 
 pub finish-requires-2 : goal.finish-requires-2
 finish-requires-2 c =
-    copied-finishable c.requires c.args.res.now (omega (arith, c.if-res-n.false)) c.copy.auto.to c.copy.ensures
+    copied-finishable c.requires c.args.res.now (omega (arith, c.if-res-n.false)) (omega arith) c.copy_from_slice.ensures.after
 
 pub returns : goal.returns
 returns c =
-    copied_given c.requires c.args.res.now (omega (arith, c.if-res-n.false)) c.copy.auto.to c.copy.ensures c.finish-2.ensures
+    copied_given c.requires c.args.res.now (omega (arith, c.if-res-n.false)) (omega arith) c.copy_from_slice.ensures.after c.finish-2.ensures

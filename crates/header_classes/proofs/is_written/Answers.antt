@@ -1,19 +1,19 @@
-use native.Mathlib.Omega.{arith}
-use mathlib.Core.Path.{refl, sym, ◌∙◌}
-use borrow.Author.Tests.{le-leb, lt-leb}
-use Rattle.header_classes.proofs.Headable.{written_step, written_none}
+use Rattle.std.proofs.Common.{ℕ, Bool, ◌||◌, List, [], ◌∷◌, ◌≡◌, rules, tests}
+use mathlib.Core.Path.{refl, ap, ◌∙◌}
+use lib.Dec.{leb}
+use Rattle.std.specs.List.{list_any}
+use Rattle.std.proofs.lemmas.Iterator.{YieldsList-from_slice}
+use Rattle.std.proofs.lemmas.Iterator.Search.{any_from_yields_List}
+use Rattle.table.specs.Node.{kind}
+use Rattle.table.specs.Header.{is_written}
 use Rattle.header_classes.proofs.is_written.Goals as goal
 
-pub loop-i-init : goal.loop-i-init
-loop-i-init c = refl
-
-pub returns-then-kind-ge12 : goal.returns-then-kind-ge12
-returns-then-kind-ge12 c =
-    sym (c.loop-i.invariant ∙ written_step _ c.loop-i.i (omega arith) ∙ rw (← c.kind.ensures, le-leb _ _ c.if-kind-ge12.true))
-
-pub loop-i-preserved : goal.loop-i-preserved
-loop-i-preserved c =
-    c.loop-i.invariant ∙ written_step _ c.loop-i.i (omega arith) ∙ rw (← c.kind.ensures, lt-leb _ _ c.if-kind-ge12.false)
+some_written : (t : List ℕ) → list_any (λ w. leb 12 (kind w)) t ≡ is_written t
+unfolding is_written
+some_written [] = refl
+some_written (w ∷ t) = ap (λ (b : Bool). leb 12 (kind w) || b) (some_written t)
 
 pub returns : goal.returns
-returns c = sym (c.loop-i.invariant ∙ written_none _ _ c.loop-i-test.false)
+returns c =
+    any_from_yields_List (λ w. leb 12 (kind w)) _ _ _ c.any.ensures.ran (YieldsList-from_slice c.args.words.now cc) (λ x b q k. search (rules, tests))
+    ∙ some_written c.args.words.now

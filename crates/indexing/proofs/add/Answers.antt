@@ -7,5 +7,5 @@ use Rattle.indexing.proofs.add.Goals as goal
 pub returns : goal.returns
 returns c =
     λ t i.
-    rw (c.wide-n.ensures, c.bucket.ensures.0, i.count_at, add-one)
+    rw (c.from-n.ensures, c.bucket.ensures.0, i.count_at, add-one)
     (indexed_more t c.args.index.now c.args.w i (omega (arith, c.requires.0, i.count_at)))

@@ -7,4 +7,4 @@ use Rattle.judge_calls.proofs.judge.Goals as goal
 pub returns : goal.returns
 returns c =
     let e = c.judge-judged.ensures in
-    (judge_replied (ap (λ (j : Judged). j.answer) e.value) c.judge_reply-number.ensures, (ap (λ (j : Judged). j.tally) e.value, e.scratch_after))
+    (judge_replied (ap (λ (j : Judged). j.answer) e.value) c.judge_reply.ensures, (ap (λ (j : Judged). j.tally) e.value, e.scratch_after))

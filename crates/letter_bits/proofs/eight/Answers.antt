@@ -1,5 +1,4 @@
 -- Four samples, and above them four more.
-use borrow.Author.Rules.{rules}
 use Prim.Native.Nat.{◌<◌, ◌^◌}
 use native.Mathlib.Omega.{arith}
 use Rattle.letter_bits.proofs.Packed.{pack-append, pack_room}

@@ -1,6 +1,4 @@
 -- Four digits, each at its place.
-use borrow.Author.Rules.{rules}
-use native.Mathlib.Omega.{arith}
 use Rattle.letter_bits.proofs.Packed.{pack-digits}
 use Rattle.letter_bits.proofs.four.Goals as goal
 

@@ -9,4 +9,4 @@ use Rattle.letter_bits.proofs.letter_bit.Goals as goal
 
 pub returns : goal.returns
 unfolding letter_in bit
-returns c = let some : 0 < 2 = omega arith in (one_digit _ (mod-lt _ some), mod-lt _ some)
+returns c = let some : 0 < 2 = omega arith in rw c.from.ensures (one_digit _ (mod-lt _ some), mod-lt _ some)

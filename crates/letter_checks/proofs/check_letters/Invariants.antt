@@ -1,11 +1,6 @@
 -- The words so far name driven letters only.
-use Prim.Native.Nat.{◌-◌}
-use lib.ListN.{length}
 use Rattle.letter_checks.proofs.Letters.{Passing}
 use Rattle.letter_checks.proofs.check_letters.Given as goal
 
 abbrev pub invariant-loop-i : goal.invariant-loop-i
 invariant-loop-i l = Passing l.table l.driven l.i
-
-abbrev pub decreases-loop-i : goal.decreases-loop-i
-decreases-loop-i l = length l.table - l.i

@@ -2,7 +2,6 @@ use Prim.Native.Nat.{ℕ}
 use mathlib.Core.Path.{◌≡◌}
 use mathlib.Core.List.{List, [], ◌∷◌}
 use Rattle.listing.specs.Listing.{hex_line}
-use borrow.Author.Rules.{rules}
 use Rattle.listing.proofs.line.Goals as goal
 
 -- eight digits, each as answered, and the line's end

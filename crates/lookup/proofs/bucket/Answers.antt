@@ -7,8 +7,8 @@ use Rattle.lookup.proofs.bucket.Goals as goal
 
 pub overflow_mul-result-2 : goal.overflow_mul-result-2
 unfolding hash_of
-overflow_mul-result-2 c = omega (arith, part_le c.args.half c.args.w)
+overflow_mul-result-2 c = omega (arith, part_le c.args.half c.from.result)
 
 pub returns : goal.returns
 unfolding bucket_of hash_of
-returns c = (refl, bucket_lt c.args.half c.args.w c.requires.0)
+returns c = rw c.from.ensures (refl, bucket_lt c.args.half c.args.w c.requires.0)

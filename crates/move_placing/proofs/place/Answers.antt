@@ -16,7 +16,7 @@ write-requires c =
 pub returns-then-state-eq0 : goal.returns-then-state-eq0
 returns-then-state-eq0 c =
     let few : c.args.total ≤ 16383 = omega arith in
-    start_placed c.requires few c.if-state-eq0.true c.write.ensures
+    start_placed c.requires few c.args.sample c.args.res.now c.write.new.res c.write.result c.if-state-eq0.true c.write.ensures
 
 pub find-word-requires : goal.find-word-requires
 find-word-requires c =
@@ -37,4 +37,4 @@ write-requires-2 c =
 pub returns : goal.returns
 returns c =
     let few : c.args.total ≤ 16383 = omega arith in
-    placed-few c.requires few c.write-2.ensures
+    placed-few c.requires few c.args.sample c.args.res.now c.write-2.new.res c.write-2.result c.write-2.ensures

@@ -21,16 +21,7 @@ pub write-requires : goal.write-requires
 write-requires t c = (omega (arith, lent_length _ c.args.res.now c.if-slots-res.true), c.requires)
 
 pub returns-then-slots-res : goal.returns-then-slots-res
-returns-then-slots-res t c = moved_part _ _ _ _ c.if-slots-res.true c.write.ensures
+returns-then-slots-res t c = moved_part _ _ _ c.args.res.now _ c.if-slots-res.true c.write.result c.write.ensures
 
-pub of_64-requires : goal.of_64-requires
-of_64-requires t c = record { drawn = c.requires; asked = record { few = omega arith; lent = omega arith } }
-
-pub of_512-requires : goal.of_512-requires
-of_512-requires t c = record { drawn = c.requires; asked = record { few = omega arith; lent = omega arith } }
-
-pub of_4096-requires : goal.of_4096-requires
-of_4096-requires t c = record { drawn = c.requires; asked = record { few = omega arith; lent = omega arith } }
-
-pub of_16383-requires : goal.of_16383-requires
-of_16383-requires t c = let q = c.requires in record { drawn = q; asked = record { few = table-few _ q.accepted; lent = omega arith } }
+pub of-requires-2-clause-asked : goal.of-requires-2-clause-asked
+of-requires-2-clause-asked t c = record { few = omega (arith, table-few _ c.requires.accepted); lent = omega arith }

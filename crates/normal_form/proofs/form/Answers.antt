@@ -3,7 +3,8 @@ use native.Mathlib.Omega.{arith}
 use mathlib.Core.Path.{◌≡◌, sym, subst, ◌∙◌}
 use mathlib.Core.Bool.{true}
 use mathlib.Core.List.{List}
-use Rattle.refusals.specs.declared.Outcome.TheVariants.{Accepted}
+use Rattle.std.specs.Prelude.{Ok}
+use Rattle.std.proofs.lemmas.Result.{err_from_is_err_and}
 use Rattle.table.specs.declared.settings.Limits.{Limits}
 use Rattle.table.specs.Limits.{is_permitted, plain_limit}
 use Rattle.table.specs.Header.{body, headed_checked}
@@ -34,7 +35,7 @@ overflow_add-limits c =
     omega (arith, few)
 
 pub bounds-table-0 : goal.bounds-table-0
-bounds-table-0 c = some_word true (plain_limit c.args.limits) c.args.table.now (sym c.in-Accepted.ensures)
+bounds-table-0 c = some_word true (plain_limit c.args.limits) c.args.table.now (sym c.in_ok-check.ensures)
 
 pub returns-then-is_normal : goal.returns-then-is_normal
 returns-then-is_normal c =
@@ -42,16 +43,16 @@ returns-then-is_normal c =
     let t : List ℕ = c.args.table.now in
     let within : is_permitted l ≡ true = sym c.permitted.ensures ∙ c.if-not-permitted.false in
     let few : l.written ≤ 256 = (permitted l within).written in
-    let accepted : headed_checked true (plain_limit l) t ≡ Accepted = sym c.in-Accepted.ensures in
+    let accepted : headed_checked true (plain_limit l) t ≡ Ok tt = sym c.in_ok-check.ensures in
     let normal : c.is_normal.result ≡ is_normal (body t) = c.is_normal.ensures ∙ normal-header (plain_limit l) (omega (arith, few)) t accepted in
     let q = own l t c.args.res.now within accepted (sym normal ∙ c.if-is_normal.true) in
     record { value = q.reply; res_after = q.slice }
 
 pub slice_bounds-rewrite-count : goal.slice_bounds-rewrite-count
-slice_bounds-rewrite-count c = omega (arith, some_word true (plain_limit c.args.limits) c.args.table.now (sym c.in-Accepted.ensures))
+slice_bounds-rewrite-count c = omega (arith, some_word true (plain_limit c.args.limits) c.args.table.now (sym c.in_ok-check.ensures))
 
 pub slice_bounds-rewrite-start : goal.slice_bounds-rewrite-start
-slice_bounds-rewrite-start c = omega (arith, some_word true (plain_limit c.args.limits) c.args.table.now (sym c.in-Accepted.ensures))
+slice_bounds-rewrite-start c = omega (arith, some_word true (plain_limit c.args.limits) c.args.table.now (sym c.in_ok-check.ensures))
 
 pub rewrite-requires : goal.rewrite-requires
 rewrite-requires c =
@@ -59,21 +60,22 @@ rewrite-requires c =
     let t : List ℕ = c.args.table.now in
     let within : is_permitted l ≡ true = sym c.permitted.ensures ∙ c.if-not-permitted.false in
     let few : l.written ≤ 256 = (permitted l within).written in
-    let accepted : headed_checked true (plain_limit l) t ≡ Accepted = sym c.in-Accepted.ensures in
+    let accepted : headed_checked true (plain_limit l) t ≡ Ok tt = sym c.in_ok-check.ensures in
     let normal : c.is_normal.result ≡ is_normal (body t) = c.is_normal.ensures ∙ normal-header (plain_limit l) (omega (arith, few)) t accepted in
     subst (Rewritable l) (sym (whole_body t)) (rewritable l t within accepted (sym normal ∙ c.if-is_normal.false))
 
-pub returns-in-Refused : goal.returns-in-Refused
-returns-in-Refused c =
+pub returns-in_err-check : goal.returns-in_err-check
+returns-in_err-check c =
     let l : Limits = c.args.limits in
     let within : is_permitted l ≡ true = sym c.permitted.ensures ∙ c.if-not-permitted.false in
-    let q = table-refused l c.args.table.now c.args.res.now within _ (sym c.in-Refused.ensures) in
-    record { value = q.reply; res_after = q.slice }
+    let q = table-refused l c.args.table.now c.args.res.now within _ (sym c.in_err-check.ensures) in
+    let p = err_from_is_err_and c.from_residual.result c.from_residual.ensures.1 in
+    rw (p.1, p.2) (record { value = q.reply; res_after = q.slice })
 
-pub returns-else-is_normal : goal.returns-else-is_normal
-returns-else-is_normal c =
+pub returns : goal.returns
+returns c =
     let l : Limits = c.args.limits in
     let t : List ℕ = c.args.table.now in
-    let accepted : headed_checked true (plain_limit l) t ≡ Accepted = sym c.in-Accepted.ensures in
+    let accepted : headed_checked true (plain_limit l) t ≡ Ok tt = sym c.in_ok-check.ensures in
     let q = rewritten l t accepted (rw (whole_body t) at c.rewrite.ensures) in
     record { value = q.reply; res_after = q.slice }

@@ -1,5 +1,6 @@
 -- Each operator's connectives; a constant and a letter read nothing.
 use mathlib.Core.Path.{ap}
+use mathlib.Core.Logic.{inl, inr}
 use Rattle.operators.specs.Looped.{does}
 use Rattle.operand_rows.proofs.prepare.Goals as goal
 
@@ -13,10 +14,7 @@ pub load_both-requires : goal.load_both-requires
 load_both-requires c = record { row_for = c.requires.row_for; standing = c.requires.standing _ (ap does c.in-Fixpoint.is) }
 
 pub returns-in-Constant : goal.returns-in-Constant
-returns-in-Constant c f g h = rw c.in-Constant.is tt
-
-pub returns-in-Letter : goal.returns-in-Letter
-returns-in-Letter c f g h = rw c.in-Letter.is tt
+returns-in-Constant c f g h = elim c.in-Constant.is [ inl w ↦ rw w.1 tt | inr w ↦ rw w.1 tt ]
 
 pub returns-in-Each : goal.returns-in-Each
 returns-in-Each c f g h =

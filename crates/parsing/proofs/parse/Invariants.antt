@@ -1,5 +1,4 @@
 -- The loop's invariant is that of proofs/Parsing: a state of the reader whose image the code holds.
-use Prim.Native.Nat.{◌-◌, ◌≤◌}
 use mathlib.Core.Path.{◌≡◌}
 use lib.ListN.{length}
 use Rattle.placing.specs.State.{state, Numbered}
@@ -11,10 +10,6 @@ abbrev pub invariant-loop-i : goal.invariant-loop-i
 invariant-loop-i l = (length l.stack ≡ length l.initial.stack)
     × (length l.out ≡ length l.initial.out)
     × (length l.index ≡ length l.initial.index)
-    × (l.i ≤ length l.text)
     × Numbered (state l.out l.index)
     × Fit l.r.turn
     × Going l.text l.i (viewed l.r l.stack (state l.out l.index))
-
-abbrev pub decreases-loop-i : goal.decreases-loop-i
-decreases-loop-i l = length l.text - l.i

@@ -1,11 +1,8 @@
 use Rattle.std.proofs.Common.{◌≤◌, ◌^◌, length, sym, ◌∙◌, arith}
 use Rattle.drafts.proofs.Drafts.{drafted_within}
 use Rattle.parts.specs.Parts.{folded_part}
-use Rattle.part_sums.proofs.Parts.{part_joined, part_false, part_full, root_false, root_standing}
+use Rattle.part_sums.proofs.Parts.{part_joined, part_false, root_false, root_standing}
 use Rattle.part_sums.proofs.with_part.Goals as goal
-
-pub returns-in-Full-clause-grown : goal.returns-in-Full-clause-grown
-returns-in-Full-clause-grown c = part_full _ _ _ c.if-choice-ones.false c.requires.joinable.numbered c.requires.untrue.0 c.in-Full.is
 
 pub bounds-folded-root : goal.bounds-folded-root
 bounds-folded-root c = drafted_within c.part-root.new.folded (folded_part c.args.table.now c.args.choice) c.part-root.result c.part-root.ensures.drafted
@@ -28,14 +25,28 @@ returns-then-kind-eq-FALSE c =
       laid = c.part-root.ensures.laid;
     }
 
+pub returns-in_err-joined : goal.returns-in_err-joined
+returns-in_err-joined c =
+    let ready = c.requires.joinable.ready in
+    let few : length c.part-root.new.folded ≤ 2 ^ 20 = omega (arith, ready.long, ready.fillable.room.narrow) in
+    let drafted = c.part-root.ensures.drafted in
+    let no_room = c.if-kind-eq-FALSE.false in
+    record {
+      grown = rw c.from_residual.ensures (part_joined c.args.table.now c.args.choice _ c.if-choice-ones.false
+          (c.in_err-joined.ensures (folded_part c.args.table.now c.args.choice) drafted
+          (root_standing c.args.table.now c.part-root.new.folded c.args.choice c.part-root.result drafted few c.requires.untrue.0 (λ e. no_room (c.kind.ensures ∙ e)))));
+      laid = c.part-root.ensures.laid;
+    }
+
 pub returns : goal.returns
 returns c =
     let ready = c.requires.joinable.ready in
     let few : length c.part-root.new.folded ≤ 2 ^ 20 = omega (arith, ready.long, ready.fillable.room.narrow) in
     let drafted = c.part-root.ensures.drafted in
+    let other = c.if-kind-eq-FALSE.false in
     record {
       grown = part_joined c.args.table.now c.args.choice _ c.if-choice-ones.false
-          (c.join.ensures (folded_part c.args.table.now c.args.choice) drafted
-          (root_standing c.args.table.now c.part-root.new.folded c.args.choice c.part-root.result drafted few c.requires.untrue.0 (λ e. c.if-kind-eq-FALSE.false (c.kind.ensures ∙ e))));
+          (c.in_ok-joined.ensures (folded_part c.args.table.now c.args.choice) drafted
+          (root_standing c.args.table.now c.part-root.new.folded c.args.choice c.part-root.result drafted few c.requires.untrue.0 (λ e. other (c.kind.ensures ∙ e))));
       laid = c.part-root.ensures.laid;
     }

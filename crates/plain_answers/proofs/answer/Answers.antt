@@ -1,21 +1,14 @@
-use Prim.Native.Nat.{◌-◌}
-use mathlib.Core.Path.{refl}
-use native.Mathlib.Omega.{arith}
-use lib.ListN.{length-drop}
+use Rattle.std.proofs.Common.{false, ◌≡◌, ◌-◌, length, arith, length-drop}
 use lib.Seq.{length-take-le}
-use mathlib.Core.Bool.{false}
+use Rattle.std.proofs.lemmas.Bool.Decides.{nat_tests}
 use Rattle.table.specs.Header.{body}
 use Rattle.table.proofs.Accepted.{accepted-well-formed}
 use Rattle.headed_answers.proofs.Ends.{given_empty}
 use Rattle.plain_answers.proofs.Lent.{form-finishable, form_given}
 use Rattle.plain_answers.proofs.answer.Goals as goal
 
-pub finish-requires : goal.finish-requires
-finish-requires c = record { within = λ z. absurd (z refl); words = λ z. absurd (z refl) }
-
-pub returns-then-res-eq0 : goal.returns-then-res-eq0
-returns-then-res-eq0 c =
-    given_empty _ c.args.res.now (omega arith) c.finish.ensures
+pub returns-then-is_empty : goal.returns-then-is_empty
+returns-then-is_empty c = given_empty _ c.args.res.now (grind (arith, nat_tests)) c.finish.ensures
 
 pub write-n-requires : goal.write-n-requires
 write-n-requires c =
@@ -24,13 +17,15 @@ write-n-requires c =
       limit = c.requires.limit;
       accepted = c.requires.accepted;
       few = omega (arith, c.requires.small, (accepted-well-formed false c.requires.limit words c.requires.accepted).few);
-      lent = omega (arith, c.lesser-lent.ensures, length-take-le (c.lesser-lent.result - 1) (body c.args.res.now) (omega (arith, c.lesser-lent.ensures, length-drop 1 c.args.res.now)));
+      lent = omega (arith, c.min-lent.ensures, length-take-le (c.min-lent.result - 1) (body c.args.res.now) (omega (arith, c.min-lent.ensures, length-drop 1 c.args.res.now)));
     }
 
 pub finish-requires-2 : goal.finish-requires-2
 finish-requires-2 c =
-    form-finishable c.requires c.args.res.now (omega arith) c.lesser-lent.ensures c.write-n.auto.res c.write-n.ensures
+    let some : length c.args.res.now ≡ 0 → ⊥ = λ z. grind (arith, nat_tests) in
+    form-finishable c.requires c.args.res.now _ some c.min-lent.ensures c.write-n.auto.res _ c.write-n.ensures
 
 pub returns : goal.returns
 returns c =
-    form_given c.requires c.args.res.now (omega arith) c.lesser-lent.ensures c.write-n.auto.res c.write-n.ensures c.finish-2.ensures
+    let some : length c.args.res.now ≡ 0 → ⊥ = λ z. grind (arith, nat_tests) in
+    form_given c.requires c.args.res.now _ some c.min-lent.ensures c.write-n.auto.res _ c.write-n.ensures c.finish-2.ensures

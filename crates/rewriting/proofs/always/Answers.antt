@@ -1,5 +1,4 @@
 use mathlib.Core.Path.{◌∙◌}
-use borrow.Author.Rules.{rules}
 use Rattle.rewriting.proofs.Opened.{always-weak, always-release}
 use Rattle.rewriting.proofs.always.Goals as goal
 

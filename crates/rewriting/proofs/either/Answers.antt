@@ -1,5 +1,4 @@
 use mathlib.Core.Path.{◌∙◌}
-use borrow.Author.Rules.{rules}
 use Rattle.rewriting.proofs.Opened.{either-weak, either-release}
 use Rattle.rewriting.proofs.either.Goals as goal
 

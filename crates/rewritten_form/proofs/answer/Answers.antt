@@ -1,20 +1,18 @@
-use Rattle.std.proofs.Common.{arith}
-use mathlib.Core.Path.{refl}
+use Rattle.std.proofs.Common.{◌≡◌, length, arith}
+use Rattle.std.proofs.lemmas.Bool.Decides.{nat_tests}
 use Rattle.headed_answers.proofs.Ends.{given_empty}
 use Rattle.rewritten_form.proofs.Ends.{form-finishable, form_given}
 use Rattle.rewritten_form.proofs.answer.Goals as goal
 
-pub finish-requires : goal.finish-requires
-finish-requires c = record { within = λ z. absurd (z refl); words = λ z. absurd (z refl) }
-
-pub returns-then-res-eq0 : goal.returns-then-res-eq0
-returns-then-res-eq0 c =
-    given_empty _ c.args.res.now (omega arith) c.finish.ensures
+pub returns-then-is_empty : goal.returns-then-is_empty
+returns-then-is_empty c = given_empty _ c.args.res.now (grind (arith, nat_tests)) c.finish.ensures
 
 pub finish-requires-2 : goal.finish-requires-2
 finish-requires-2 c =
-    form-finishable c.requires c.args.res.now (λ e. omega arith) c.form-n.auto.res c.form-n.ensures
+    let some : length c.args.res.now ≡ 0 → ⊥ = λ z. grind (arith, nat_tests) in
+    form-finishable c.requires c.args.res.now _ some c.form-n.auto.res _ c.form-n.ensures
 
 pub returns : goal.returns
 returns c =
-    form_given c.requires c.args.res.now (λ e. omega arith) c.form-n.auto.res c.form-n.ensures c.finish-2.ensures
+    let some : length c.args.res.now ≡ 0 → ⊥ = λ z. grind (arith, nat_tests) in
+    form_given c.requires c.args.res.now _ some c.form-n.auto.res _ c.form-n.ensures _ _ c.finish-2.ensures

@@ -8,6 +8,6 @@ use Rattle.row_answers.proofs.read_answer.Goals as goal
 pub returns : goal.returns
 returns c f h =
     let holds = c.holds_at-holds.ensures _ f h (search rules) in (
-      judged_is f _ _ _ _ holds (c.count_held-moments.ensures _ f h) (c.first_failing-failing.ensures f h),
-      c.after-after.ensures ∙ ap (tally_after c.args.tally) holds,
+      judged_is f _ _ _ _ holds (c.count_held.ensures _ f h) (c.first_failing.ensures f h),
+      c.after.ensures ∙ ap (tally_after c.args.tally) holds,
     )

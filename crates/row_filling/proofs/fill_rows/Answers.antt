@@ -1,6 +1,6 @@
 -- Each turn puts one row more in its place.
 use Prim.Native.Nat.{◌≤◌}
-use lib.ListN.{length-take}
+use lib.ListN.{length, length-take}
 use lib.Seq.{length_front}
 use mathlib.Core.Path.{refl, ◌∙◌}
 use native.Mathlib.Omega.{arith}
@@ -13,7 +13,7 @@ pub row_words-words-requires : goal.row_words-words-requires
 row_words-words-requires c = c.requires.few
 
 pub each-init : goal.each-init
-each-init c = (omega arith, refl, λ k few. rows_then_none _ _, refl, refl)
+each-init c = (λ k few. rows_then_none _ _, refl, refl)
 
 pub slice_bounds-a-end : goal.slice_bounds-a-end
 slice_bounds-a-end c =
@@ -37,32 +37,25 @@ fill_row-requires c =
     let facts = c.requires in
     let wide = c.row_words-words.ensures in
     record {
-      j_in_bounds = (c.each-test.true, fillable-length _ _ c.each.invariant.1 facts);
+      j_in_bounds = (c.each-test.true, fillable-length _ _ c.each.auto.scratch facts);
       row_for = (
         record { some = facts.some; few = facts.few; size = simp length-take (omega (arith, few, wide)) },
         record { some = facts.some; few = facts.few; size = simp length-take (omega (arith, few, wide)) },
       );
     }
 
-pub overflow_add-j : goal.overflow_add-j
-overflow_add-j c = omega (arith, c.each-test.true, c.well_formed)
-
-pub each-smaller : goal.each-smaller
-each-smaller c = omega (arith, c.each-test.true)
-
 pub each-preserved : goal.each-preserved
 each-preserved c =
     let inv = c.each.invariant in
-    let h = c.each-test.true in (
-      omega (arith, h),
-      c.fill_row.auto.scratch ∙ inv.1,
-      λ k few. rows_next _ _ _ _ _ inv.0 (inv.2 k few) _ h (c.fill_row.ensures k few (rows_stand _ _ _ _ _ inv.0 (inv.2 k few))),
-      length_front c.each.a c.fill_row.new.a c.row_words-words.result c.fill_row.auto.a ∙ inv.3,
-      length_front c.each.b c.fill_row.new.b c.row_words-words.result c.fill_row.auto.b ∙ inv.4,
+    let h = c.each-test.true in
+    let below : c.each.j ≤ length c.args.table.now = omega arith in (
+      λ k few. rows_next _ _ _ _ _ below (inv.0 k few) _ h (c.fill_row.ensures k few (rows_stand _ _ _ _ _ below (inv.0 k few))),
+      length_front c.each.a c.fill_row.new.a c.row_words-words.result c.fill_row.auto.a ∙ inv.1,
+      length_front c.each.b c.fill_row.new.b c.row_words-words.result c.fill_row.auto.b ∙ inv.2,
     )
 
 pub shape_of-scratch : goal.shape_of-scratch
-shape_of-scratch c = c.each.invariant.1
+shape_of-scratch c = c.each.auto.scratch
 
 pub returns : goal.returns
-returns c = λ k few. rows_all _ _ _ _ _ c.each.invariant.0 (c.each.invariant.2 k few) c.each-test.false
+returns c = λ k few. rows_all _ _ _ _ _ c.each.auto.j-end (c.each.invariant.0 k few) c.each-test.false

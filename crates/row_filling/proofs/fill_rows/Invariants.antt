@@ -7,10 +7,5 @@ use Rattle.table.specs.Table.{formulas}
 use Rattle.row_filling.proofs.fill_rows.Given as goal
 
 abbrev pub invariant-each : goal.invariant-each
-invariant-each l = (l.j ≤ length l.table)
-    × (length l.scratch ≡ length l.initial.scratch)
-    × ((driven : ℕ) → driven ≤ 32 → l.scratch ≡ rows_then (lasso_of l.samples l.start driven) (take l.j (formulas l.table)) l.initial.scratch)
+invariant-each l = ((driven : ℕ) → driven ≤ 32 → l.scratch ≡ rows_then (lasso_of l.samples l.start driven) (take l.j (formulas l.table)) l.initial.scratch)
     × (length l.a ≡ 64) × (length l.b ≡ 64)
-
-abbrev pub decreases-each : goal.decreases-each
-decreases-each l = length l.table - l.j

@@ -7,6 +7,6 @@ pub returns-then-left-eq0 : goal.returns-then-left-eq0
 unfolding first_operand
 returns-then-left-eq0 c = rw (← c.left-left.ensures, eq-eqb _ _ c.if-left-eq0.true) c.right.ensures
 
-pub returns : goal.returns
+pub returns-else-left-eq0 : goal.returns-else-left-eq0
 unfolding first_operand
-returns c = rw (← c.left-left.ensures, ne_eqb _ _ c.if-left-eq0.false)
+returns-else-left-eq0 c = rw (← c.left-left.ensures, ne_eqb _ _ c.if-left-eq0.false)

@@ -1,9 +1,6 @@
-use borrow.Author.Rules.{rules}
 use mathlib.Core.Path.{◌≡◌, sym, ap₂, ◌∙◌}
 use Prim.Native.Nat.{ℕ, ◌≤◌, ◌+◌, ◌-◌, ◌*◌, min}
 use native.Mathlib.Omega.{arith}
-use lib.ListN.{length, get_or}
-use Rattle.logic.specs.Truth.{Sequence}
 use Rattle.row_words.specs.Row as rows
 use mir.Syntax.{w64}
 use mir.Val.{Fits}
@@ -23,7 +20,7 @@ loop-w-init c =
     let L = c.args.positions in
     let z : 0 ≡ min (0 * 64) L = omega arith in
     let l : L ≡ L - 0 * 64 = omega arith in
-    (omega arith, λ f e. ap₂ (rows.first_false f) z l)
+    λ f e. ap₂ (rows.first_false f) z l
 
 pub overflow_cast-result : goal.overflow_cast-result
 overflow_cast-result c = zeros-fit _
@@ -33,18 +30,16 @@ overflow_add-result c = sum_fits _ _ (omega arith)
 
 pub returns-then-failing-ne0 : goal.returns-then-failing-ne0
 returns-then-failing-ne0 c f e =
-    sym (c.loop-w.invariant.1 f e ∙ word-fails _ f _ c.loop-w.w _ _ e (omega arith) c.filled.ensures c.ones.ensures c.if-failing-ne0.true)
+    sym (c.loop-w.invariant f e ∙ word-fails _ f _ c.loop-w.w _ _ e (omega arith) c.filled.ensures c.ones.ensures c.if-failing-ne0.true)
 
 pub loop-w-preserved : goal.loop-w-preserved
-loop-w-preserved c = (
-  omega arith,
-  λ f e.
-      c.loop-w.invariant.1 f e ∙ word_holds _ f _ c.loop-w.w _ _ e (omega arith) c.filled.ensures c.ones.ensures c.if-failing-ne0.false,
-)
+loop-w-preserved c =
+    λ f e.
+    c.loop-w.invariant f e ∙ word_holds _ f _ c.loop-w.w _ _ e (omega arith) c.filled.ensures c.ones.ensures c.if-failing-ne0.false
 
 pub returns : goal.returns
 returns c f e =
     let l = c.loop-w in
     let a = c.args in
     let end : min (l.w * 64) a.positions ≡ a.positions = omega arith in
-    sym (l.invariant.1 f e ∙ first_none f _ _ (omega arith) ∙ end)
+    sym (l.invariant f e ∙ first_none f _ _ (omega arith) ∙ end)

@@ -1,8 +1,6 @@
 -- The bit of a position is the value there.
-use native.Mathlib.Omega.{arith}
 use mathlib.Core.Path.{◌∙◌}
 use Rattle.row_words.proofs.Rows.{row-bit}
-use borrow.Author.Rules.{rules}
 use Rattle.row_reading.proofs.holds_at.Goals as goal
 
 pub returns : goal.returns

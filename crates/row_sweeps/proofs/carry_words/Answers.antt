@@ -1,18 +1,13 @@
-use borrow.Author.Rules.{rules}
-use mathlib.Core.Path.{◌≡◌, refl, sym, ◌∙◌}
-use Prim.Native.Nat.{ℕ, ◌≤◌, ◌<◌, ◌-◌, ◌*◌}
+use mathlib.Core.Path.{refl, sym, ◌∙◌}
+use Prim.Native.Nat.{ℕ, ◌-◌, ◌*◌}
 use native.Mathlib.Omega.{arith}
-use lib.ListN.{length, length-set}
-use Rattle.logic.specs.Truth.{Sequence, sweep}
-use Rattle.row_words.specs.Row as rows
 use Rattle.row_words.proofs.Sweep.{sweep-done}
-use Rattle.row_sweeps.specs.Carried.{carried_row}
 use Rattle.row_words.proofs.Rows.{row-pack, sweep_from, written_none, written_row, written-down}
-use Rattle.row_sweeps.proofs.Sweeps.{inner-full, word_carried}
+use Rattle.row_sweeps.proofs.Sweeps.{word_carried}
 use Rattle.row_sweeps.proofs.carry_words.Goals as goal
 
 pub loop-w-init : goal.loop-w-init
-loop-w-init c = (omega arith, refl, omega arith, omega arith, λ some. c.filled-n.ensures, λ G P eg ep. (sym (sweep-done G P _ _ _ (omega arith)), written_none (omega arith)))
+loop-w-init c = (omega arith, omega arith, λ some. c.filled-n.ensures, λ G P eg ep. (sym (sweep-done G P _ _ _ (omega arith)), written_none (omega arith)))
 
 pub loop-w-preserved : goal.loop-w-preserved
 loop-w-preserved c =
@@ -20,18 +15,16 @@ loop-w-preserved c =
     let a = c.args in
     let L = a.positions in
     let w : ℕ = l.w - 1 in
-    let n = l.invariant.4 (omega arith) in (
-      simp length-set (omega arith),
-      simp length-set l.invariant.1,
+    let n = l.invariant.2 (omega arith) in (
       omega arith,
       omega arith,
-      inner-full L _ l.w (omega arith) l.invariant.0,
+      λ some. omega arith,
       λ G P eg ep.
           let goal = row-pack L G _ eg w _ (omega arith) n in
           let keep = row-pack L P _ ep w _ (omega arith) n in
-          let carry = (l.invariant.5 G P eg ep).0 in (
+          let carry = (l.invariant.3 G P eg ep).0 in (
             c.first-carry.ensures G P (w * 64) goal keep ∙ sweep_from L G P a.end l.carry w l.w l.n (omega arith) (omega arith) n carry (w * 64) _ refl,
-            written-down (l.invariant.5 G P eg ep).1 w (omega arith) (omega arith)
+            written-down (l.invariant.3 G P eg ep).1 w (omega arith) (omega arith)
                 (word_carried L G P a.end l.carry w l.w l.n _ (omega arith) (omega arith) n carry (c.carried.ensures G P (w * 64) goal keep)),
           ),
     )
@@ -39,4 +32,4 @@ loop-w-preserved c =
 pub returns : goal.returns
 returns c G P eg ep =
     let l = c.loop-w in
-    written_row (omega arith) refl (record { word = λ w from to. (l.invariant.5 G P eg ep).1.word w (omega arith) to })
+    written_row (omega arith) refl (record { word = λ w from to. (l.invariant.3 G P eg ep).1.word w (omega arith) to })

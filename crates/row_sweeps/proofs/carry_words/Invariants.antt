@@ -1,22 +1,13 @@
 -- The words from w up have taken in what is carried, and the carry is the sweep's value at the first position of word w.
-use borrow.Author.Rules.{rules}
-use mathlib.Core.Path.{◌≡◌, refl, sym, ◌∙◌}
-use Prim.Native.Nat.{ℕ, ◌≤◌, ◌<◌, ◌-◌, ◌*◌}
-use native.Mathlib.Omega.{arith}
-use lib.ListN.{length, length-set}
+use mathlib.Core.Path.{◌≡◌}
+use Prim.Native.Nat.{◌≤◌, ◌<◌, ◌-◌, ◌*◌}
 use Rattle.logic.specs.Truth.{Sequence, sweep}
 use Rattle.row_words.specs.Row as rows
-use Rattle.row_words.proofs.Sweep.{sweep-done}
 use Rattle.row_sweeps.specs.Carried.{carried_row}
-use Rattle.row_words.proofs.Rows.{row-pack, sweep_from, written_none, written_row, written-down}
-use Rattle.row_sweeps.proofs.Sweeps.{inner-full, word_carried}
 use Rattle.row_sweeps.proofs.carry_words.Given as goal
 
 abbrev pub invariant-loop-w : goal.invariant-loop-w
-invariant-loop-w l = (l.w ≤ length l.row) × (length l.row ≡ length l.initial.row) × (1 ≤ l.n) × (l.n ≤ 64) × (0 < l.w → l.n ≡ rows.filled l.positions (l.w - 1))
+invariant-loop-w l = (1 ≤ l.n) × (l.n ≤ 64) × (0 < l.w → l.n ≡ rows.filled l.positions (l.w - 1))
     × ((G P : Sequence) → l.g ≡ rows.row l.positions G → l.p ≡ rows.row l.positions P
     → (l.carry ≡ sweep G P l.end (l.w * 64) (l.positions - l.w * 64))
     × rows.Written l.positions (carried_row l.positions G P l.end) l.w (rows.row_words l.positions) l.row)
-
-abbrev pub decreases-loop-w : goal.decreases-loop-w
-decreases-loop-w l = l.w

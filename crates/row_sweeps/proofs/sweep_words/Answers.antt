@@ -1,5 +1,4 @@
 -- The closing of the goals that have taken in what is carried.
-use borrow.Author.Rules.{rules}
 use mathlib.Core.Path.{◌∙◌}
 use Rattle.row_words.proofs.Rows.{row_ext}
 use Rattle.row_sweeps.proofs.Sweeps.{closed_carried}

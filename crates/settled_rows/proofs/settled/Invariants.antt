@@ -1,17 +1,13 @@
 -- What is added tells whether one step leaves the words passed as they are.
-use borrow.Author.Rules.{rules}
-use mathlib.Core.Path.{◌≡◌, refl, sym, ap, subst}
-use mathlib.Core.Bool.{Bool, ◌&&◌, ◌||◌}
+use mathlib.Core.Path.{◌≡◌}
+use mathlib.Core.Bool.{Bool}
 use mathlib.Core.List.{List}
-use Prim.Native.Nat.{ℕ, ◌≤◌, ◌-◌}
-use native.Mathlib.Omega.{arith}
-use lib.ListN.{length, get_or}
+use Prim.Native.Nat.{ℕ}
+use lib.ListN.{get_or}
 use lib.Bits.{bit_or, bit_and}
 use Rattle.logic.specs.Truth.{Sequence}
 use Rattle.row_words.specs.Row as rows
-use Rattle.row_words.proofs.Rows.{in_row, inner_next, last_next}
-use Rattle.row_words.proofs.Compared.{Tells, tells_none, tells_next, rows_told}
-use Rattle.settled_rows.proofs.Stepped.{step_word}
+use Rattle.row_words.proofs.Compared.{Tells}
 use Rattle.settled_rows.proofs.settled.Given as goal
 
 -- word v after one step, by what comes next at its positions
@@ -22,7 +18,4 @@ abbrev pub stepped : ℕ → Sequence → Bool → List ℕ → List ℕ → ℕ
 stepped L G c g p v = over g p v (rows.word_of L (rows.next L G c) v)
 
 abbrev pub invariant-loop-w : goal.invariant-loop-w
-invariant-loop-w l = (l.w ≤ l.last) × ((G : Sequence) → l.g ≡ rows.row l.positions G → Tells l.added (stepped l.positions G l.end l.g l.p) (λ v. get_or l.g v 0) l.w)
-
-abbrev pub decreases-loop-w : goal.decreases-loop-w
-decreases-loop-w l = l.last - l.w
+invariant-loop-w l = ((G : Sequence) → l.g ≡ rows.row l.positions G → Tells l.added (stepped l.positions G l.end l.g l.p) (λ v. get_or l.g v 0) l.w)

@@ -1,17 +1,23 @@
 -- A word is put, and the prefixes follow.
 use native.Mathlib.Omega.{arith}
 use Rattle.placing.specs.State.{state}
-use Rattle.settling.proofs.Settling.{put_made, end_room, end_settles}
+use Rattle.settling.proofs.Settling.{put_any, put_made, end_room, end_settles}
 use Rattle.settling.proofs.end.Goals as goal
 
 pub settle-requires : goal.settle-requires
 settle-requires c =
     let pre = c.requires in
-    let q = put_made _ _ pre.numbered pre.wide (omega (arith, pre.room)) c.put-n.ensures in
+    let before = state c.args.out.now c.args.index.now in
+    let after = state c.put.new.out c.put.new.index in
+    let placed = put_any before after c.args.w c.put.result c.unwrap_or-n.result c.unwrap_or-n.ensures c.put.ensures in
+    let q = put_made c.args.w c.unwrap_or-n.result pre.numbered pre.wide (omega (arith, pre.room)) placed in
     record { room = end_room _ pre q; n_bound = q.small }
 
 pub returns : goal.returns
 returns c =
     let pre = c.requires in
-    let q = put_made _ _ pre.numbered pre.wide (omega (arith, pre.room)) c.put-n.ensures in
-    end_settles (state c.args.out.now c.args.index.now) _ q c.settle.ensures
+    let before = state c.args.out.now c.args.index.now in
+    let after = state c.put.new.out c.put.new.index in
+    let placed = put_any before after c.args.w c.put.result c.unwrap_or-n.result c.unwrap_or-n.ensures c.put.ensures in
+    let q = put_made c.args.w c.unwrap_or-n.result pre.numbered pre.wide (omega (arith, pre.room)) placed in
+    end_settles before _ q c.settle.ensures

@@ -7,6 +7,3 @@ use Rattle.settling.proofs.settle.Given as goal
 
 abbrev pub invariant-loop-top : goal.invariant-loop-top
 invariant-loop-top l = (length l.out ≡ length l.initial.out) × (length l.index ≡ length l.initial.index) × Settling l.stack (state l.initial.out l.initial.index) (state l.out l.index) l.depth l.n l.top l.number
-
-abbrev pub decreases-loop-top : goal.decreases-loop-top
-decreases-loop-top l = l.top

@@ -1,7 +1,4 @@
 -- The proof of the cycle of calls {write}: the number falls.
-use Prim.Native.Nat.{ℕ, ◌<◌}
-use native.Mathlib.Omega.{arith}
-use borrow.Author.Rules.{rules}
 use Rattle.state_rooms.proofs.+write.Given as goal
 
 abbrev pub decreases-write : goal.decreases-write

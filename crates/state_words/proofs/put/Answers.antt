@@ -37,12 +37,6 @@ pub bounds-res-at : goal.bounds-res-at
 bounds-res-at c =
     omega (arith, c.loop-k-test.true, c.loop-k.invariant.1, c.if-res-at.false)
 
-pub overflow_add-k : goal.overflow_add-k
-overflow_add-k c = omega (arith, c.loop-k-test.true)
-
-pub loop-k-smaller : goal.loop-k-smaller
-loop-k-smaller c = omega (arith, c.loop-k-test.true)
-
 pub loop-k-preserved : goal.loop-k-preserved
 loop-k-preserved c =
     let a = c.args in

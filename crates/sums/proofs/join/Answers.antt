@@ -1,33 +1,28 @@
 use native.Mathlib.Omega.{arith}
-use mathlib.Core.Path.{refl, subst}
+use mathlib.Core.Path.{subst}
 use Rattle.sums.specs.Summed.{Small}
-use Rattle.sums.proofs.Growth.{placing_small, join-full, join-nothing, join_no_room, join_at, grown_as}
+use Rattle.sums.proofs.Growth.{placing_small, join-nothing, join_no_room, join_at, grown_as}
+use Rattle.std.specs.Prelude.{Some}
 use Rattle.sums.proofs.join.Goals as goal
-
-pub returns-then-p-eq0 : goal.returns-then-p-eq0
-returns-then-p-eq0 c =
-    λ φ d st.
-    grown_as c.in-At.is refl (join_no_room φ st _ (c.number-p.ensures φ d) c.if-p-eq0.true)
 
 pub pack-requires : goal.pack-requires
 pack-requires c =
     let pre = c.requires in
-    (omega arith, subst Small c.in-At.is pre.1, placing_small (c.number-p.ensures pre.0.formula pre.0.drafted))
+    (omega arith, subst Small c.in-Some.is pre.1, placing_small (c.in_ok-p.ensures pre.0.formula pre.0.drafted).1)
 
 pub put-requires : goal.put-requires
 put-requires c =
     let pre = c.requires.0 in
-    (c.number-p.ensures pre.formula pre.drafted).numbered
+    (c.in_ok-p.ensures pre.formula pre.drafted).1.numbered
 
-pub returns-in-Full : goal.returns-in-Full
-returns-in-Full c = λ φ d st. grown_as c.in-Full.is refl (join-full φ st c.requires.0.numbered)
+pub returns-in_err-p : goal.returns-in_err-p
+returns-in_err-p c = λ φ d st. rw c.from_residual.ensures (join_no_room φ st c.args.sum (c.in_err-p.ensures φ d))
 
-pub returns-in-Nothing : goal.returns-in-Nothing
-returns-in-Nothing c =
+pub returns-in-None : goal.returns-in-None
+returns-in-None c = λ φ d st. grown_as c.in-None.is (join-nothing φ st (Some c.in_ok-p.p) (c.in_ok-p.ensures φ d))
+
+pub returns-in-Some : goal.returns-in-Some
+returns-in-Some c =
     λ φ d st.
-    grown_as c.in-Nothing.is c.at.ensures (join-nothing φ st (c.number.ensures φ d))
-
-pub returns-else-p-eq0 : goal.returns-else-p-eq0
-returns-else-p-eq0 c =
-    λ φ d st.
-    grown_as c.in-At.is c.at-in-At.ensures (join_at φ st _ (c.number-p.ensures φ d) c.if-p-eq0.false c.pack.ensures c.put.ensures)
+    let p = c.in_ok-p.ensures φ d in
+    grown_as c.in-Some.is (join_at φ st _ p.0 p.1 _ c.pack.ensures c.put.ensures)

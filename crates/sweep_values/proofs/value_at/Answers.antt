@@ -1,10 +1,9 @@
-use borrow.Author.Rules.{rules}
-use mathlib.Core.Path.{◌≡◌, refl, sym, ap, ◌∙◌}
+use mathlib.Core.Path.{refl, sym, ap, ◌∙◌}
 use mathlib.Core.Bool.{true, false}
-use Prim.Native.Nat.{◌≤◌, ◌-◌, ◌+◌, ◌%◌}
+use Prim.Native.Nat.{◌-◌, ◌%◌}
 use native.Mathlib.Omega.{arith}
 use borrow.Author.Tests.{eq-eqb, ne_eqb}
-use Rattle.logic.specs.Truth.{Sequence, sweep}
+use Rattle.logic.specs.Truth.{sweep}
 use Rattle.row_words.specs.Row as rows
 use Rattle.row_words.proofs.Sweep.{sweep-done}
 use Rattle.word_carries.proofs.Carries.{kept_law}
@@ -32,19 +31,19 @@ loop-i-preserved c = (
       let n = c.filled.ensures in
       let kept = word_from _ P _ l.i (c.filled.result - l.i % 64) ep h (omega arith) in
       let goal = sym (c.first.ensures G P l.i (word_from _ G _ l.i _ eg h (omega arith)) kept) ∙ c.if-first.false in
-      let keep = sym (kept_law P l.i _ _ _ c.ones.ensures kept) ∙ eq-eqb _ _ c.if-kept-ones.true in
+      let keep = sym (kept_law P l.i _ _ _ c.ones.ensures kept) ∙ eq-eqb _ _ c.if-kept-ones.false in
       l.invariant.1 G P eg ep
       ∙ word_passed _ G P _ l.i h (ap (sweep G P false l.i) (omega arith) ∙ goal) (ap (sweep rows.nowhere P true l.i) (omega arith) ∙ keep),
 )
 
-pub returns-else-kept-ones : goal.returns-else-kept-ones
-returns-else-kept-ones c G P eg ep =
+pub returns-then-kept-ones : goal.returns-then-kept-ones
+returns-then-kept-ones c G P eg ep =
     let l = c.loop-i in
     let h = c.loop-i-test.true in
     let n = c.filled.ensures in
     let kept = word_from _ P _ l.i (c.filled.result - l.i % 64) ep h (omega arith) in
     let goal = sym (c.first.ensures G P l.i (word_from _ G _ l.i _ eg h (omega arith)) kept) ∙ c.if-first.false in
-    let keep = sym (kept_law P l.i _ _ _ c.ones.ensures kept) ∙ ne_eqb _ _ c.if-kept-ones.false in
+    let keep = sym (kept_law P l.i _ _ _ c.ones.ensures kept) ∙ ne_eqb _ _ c.if-kept-ones.true in
     keep_failed _ G P _ l.i h (ap (sweep G P false l.i) (omega arith) ∙ goal) (ap (sweep rows.nowhere P true l.i) (omega arith) ∙ keep) ∙ sym (l.invariant.1 G P eg ep)
 
 pub returns : goal.returns

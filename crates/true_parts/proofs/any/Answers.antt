@@ -9,8 +9,8 @@ overflow_sub-bits c = rw (shifted c.args.bits c.requires.bits_value.1) (pow_pos 
 pub each-requires : goal.each-requires
 each-requires c = (ready_again c.requires.ready c.opened.auto.draft c.opened.auto.folded c.opened.ensures.laid, c.requires.bits_value.1)
 
-pub returns : goal.returns
-returns c = record {
-  looked = none_opened c.args.table.now c.args.bits c.requires.bits_value.0 (ap (λ x. x - 1) (shifted c.args.bits c.requires.bits_value.1)) c.opened.ensures.opened c.if-opened.false;
+pub returns-else-opened : goal.returns-else-opened
+returns-else-opened c = record {
+  looked = rw c.if-opened.false (none_opened c.args.table.now c.args.bits c.requires.bits_value.0 (ap (λ x. x - 1) (shifted c.args.bits c.requires.bits_value.1)) c.opened.ensures.opened c.if-opened.false);
   laid = c.opened.ensures.laid;
 }

@@ -1,16 +1,11 @@
 -- No part of a choice so far folds to true.
-use Rattle.std.proofs.Common.{◌≡◌, ◌-◌, ◌^◌, ◌≤◌, length}
+use Rattle.std.proofs.Common.{length}
 use Rattle.choosing.specs.Filled.{Laid}
 use Rattle.true_parts.proofs.Looks.{Untrue}
 use Rattle.true_parts.proofs.each.Given as goal
 
 abbrev pub invariant-loop-choice : goal.invariant-loop-choice
 invariant-loop-choice l = record {
-  limit : l.limit ≡ 2 ^ l.bits;
-  within : l.choice ≤ l.limit;
   laid : Laid l.table l.draft (length l.table);
   untrue : Untrue l.table l.choice;
 }
-
-abbrev pub decreases-loop-choice : goal.decreases-loop-choice
-decreases-loop-choice l = l.limit - l.choice

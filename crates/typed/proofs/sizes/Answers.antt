@@ -14,13 +14,7 @@ use Rattle.typed.proofs.sizes.Goals as goal
 
 pub loop-i-init : goal.loop-i-init
 unfolding formula_of typed
-loop-i-init c = (omega arith, refl, refl, refl)
-
-pub operand-left-requires : goal.operand-left-requires
-operand-left-requires c = omega (arith, c.requires)
-
-pub operand-right-requires : goal.operand-right-requires
-operand-right-requires c = omega (arith, c.requires)
+loop-i-init c = (refl, refl, refl)
 
 pub loop-i-preserved : goal.loop-i-preserved
 unfolding formula_of
@@ -29,12 +23,11 @@ loop-i-preserved c =
     let i : ℕ = c.loop-i.i in
     let below : i < length t = omega arith in
     let here : c.word_bytes-last.result ≡ counted (get_or (formulas t) i (const false)) =
-    c.word_bytes-last.ensures ∙ next_counted t c.loop-i.sizes i _ _ below (c.type_inv.table i).fits c.loop-i.invariant.2
+    c.word_bytes-last.ensures ∙ next_counted t c.loop-i.sizes i _ _ below (c.type_inv.table i).fits c.loop-i.invariant.1
     (c.operand-left.ensures ∙ ap (earlier (take i c.loop-i.sizes)) c.left.ensures)
     (c.operand-right.ensures ∙ ap (earlier (take i c.loop-i.sizes)) c.right.ensures) in (
-      omega arith,
-      length-set c.loop-i.sizes i c.word_bytes-last.result ∙ c.loop-i.invariant.1,
-      rw (add-one i) (more_counted (formulas t) c.loop-i.sizes i c.word_bytes-last.result (omega (arith, length-formulas t)) (omega (arith, c.requires)) c.loop-i.invariant.2 here),
+      length-set c.loop-i.sizes i c.word_bytes-last.result ∙ c.loop-i.invariant.0,
+      rw (add-one i) (more_counted (formulas t) c.loop-i.sizes i c.word_bytes-last.result (omega (arith, length-formulas t)) (omega (arith, c.requires)) c.loop-i.invariant.1 here),
       rw (add-one i) here,
     )
 
@@ -42,4 +35,4 @@ pub returns : goal.returns
 unfolding rule
 returns c =
     let e : c.loop-i.i ≡ length c.args.table.now = omega arith in
-    rw (← e) c.loop-i.invariant.3
+    rw (← e) c.loop-i.invariant.2

@@ -1,16 +1,10 @@
 -- The invariant: what is left to ask is the use of word n and of those after it.
-use Prim.Native.Nat.{◌-◌, ◌<◌}
-use mathlib.Core.Path.{◌≡◌, refl, sym, ap, ◌∙◌}
-use native.Mathlib.Numerals.{add-one}
-use native.Mathlib.Omega.{arith}
+use Prim.Native.Nat.{◌-◌}
+use mathlib.Core.Path.{◌≡◌}
 use lib.ListN.{length}
 use Rattle.refusals.specs.Refusals.{first}
 use Rattle.table.specs.Checks.{use_checks}
-use Rattle.use_faults.proofs.Uses.{use_step, use_none}
 use Rattle.use_faults.proofs.use_fault.Given as goal
 
 abbrev pub invariant-loop-n : goal.invariant-loop-n
-invariant-loop-n l = (0 < l.n) × (first (use_checks l.words 1 (length l.words - 1)) ≡ first (use_checks l.words l.n (length l.words - l.n)))
-
-abbrev pub decreases-loop-n : goal.decreases-loop-n
-decreases-loop-n l = length l.words - l.n
+invariant-loop-n l = first (use_checks l.words 1 (length l.words - 1)) ≡ first (use_checks l.words l.n (length l.words - l.n))

@@ -19,8 +19,8 @@ byte_at-requires c =
       c.requires.0,
       omega arith,
       record {
-        room = omega (arith, c.loop-i.invariant, c.requires.1);
-        so_far = ap (take i) c.loop-i.invariant.2 ∙ take_at (take i cs) (drop i c.args.bytes.now) i (length-take-le i cs h);
+        room = omega (arith, c.loop-i.invariant.0, c.requires.1);
+        so_far = ap (take i) c.loop-i.invariant.1 ∙ take_at (take i cs) (drop i c.args.bytes.now) i (length-take-le i cs h);
       },
     )
 
@@ -31,10 +31,9 @@ loop-i-preserved c =
     let t : List ℕ = c.args.table.now in
     let d : List ℕ = c.args.bytes.now in
     let below : i < length t = omega arith in (
-      omega arith,
-      length-set c.loop-i.bytes i c.byte_at.result ∙ inv.1,
+      length-set c.loop-i.bytes i c.byte_at.result ∙ inv.0,
       rw (add-one i)
-          (ap₂ (λ (l : List ℕ) (v : ℕ). set l i v) inv.2 c.byte_at.ensures
+          (ap₂ (λ (l : List ℕ) (v : ℕ). set l i v) inv.1 c.byte_at.ensures
           ∙ copy_more (class_bytes t) d i (omega (arith, length-class_bytes t)) (omega (arith, c.requires.1))),
     )
 
@@ -43,5 +42,5 @@ returns c =
     let i : ℕ = c.loop-i.i in
     let t : List ℕ = c.args.table.now in
     let h : i ≡ length t = omega arith in
-    c.loop-i.invariant.2
+    c.loop-i.invariant.1
     ∙ ap₂ ◌++◌ (take_all i (class_bytes t) (omega (arith, length-class_bytes t))) (ap (λ (n : ℕ). drop n c.args.bytes.now) h)

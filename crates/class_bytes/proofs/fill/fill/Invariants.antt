@@ -13,7 +13,4 @@ use Rattle.class_bytes.proofs.Words.{length-class_bytes}
 use Rattle.class_bytes.proofs.fill.fill.Given as goal
 
 abbrev pub invariant-loop-i : goal.invariant-loop-i
-invariant-loop-i l = (l.i ≤ length l.table) × (length l.bytes ≡ length l.initial.bytes) × (l.bytes ≡ take l.i (class_bytes l.table) ++ drop l.i l.initial.bytes)
-
-abbrev pub decreases-loop-i : goal.decreases-loop-i
-decreases-loop-i l = length l.table - l.i
+invariant-loop-i l = (length l.bytes ≡ length l.initial.bytes) × (l.bytes ≡ take l.i (class_bytes l.table) ++ drop l.i l.initial.bytes)

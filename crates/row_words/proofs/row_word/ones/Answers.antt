@@ -1,7 +1,6 @@
 -- 64 ones, shifted, are n ones.
 use native.Mathlib.Omega.{arith}
 use Rattle.row_words.proofs.Words.{shifted-ones}
-use borrow.Author.Rules.{rules}
 use Rattle.row_words.proofs.row_word.ones.Goals as goal
 
 pub returns : goal.returns

@@ -2,7 +2,6 @@
 use native.Mathlib.Nat.{mod-lt}
 use native.Mathlib.Omega.{arith}
 use Rattle.row_words.proofs.Words.{next_law}
-use borrow.Author.Rules.{rules}
 use Rattle.row_words.proofs.row_word.shift.Goals as goal
 
 pub returns : goal.returns

@@ -1,7 +1,0 @@
--- The index and the marks are empty, and large enough.
-use native.Mathlib.Omega.{arith}
-use Rattle.faults.proofs.Marking.{room_for, kept_none}
-use Rattle.check_rooms.proofs.of_64.Goals as goal
-
-pub fault_in-requires : goal.fault_in-requires
-fault_in-requires c = (room_for _ 64 130 64 (omega arith) (omega arith) (omega arith), kept_none 130 64 (omega arith) (omega arith))

@@ -1,2 +1,0 @@
--- What is left of a text without its line end.
-pub mod Ends

@@ -1,7 +1,0 @@
-use borrow.Author.Rules.{rules}
-use native.Mathlib.Omega.{arith}
-use Rattle.table.proofs.Accepted.{table-few}
-use Rattle.state_rooms.proofs.of_16383.Goals as goal
-
-pub write-requires : goal.write-requires
-write-requires c = let q = c.requires in record { accepted = q; bytes_long = omega (arith, table-few _ q) }

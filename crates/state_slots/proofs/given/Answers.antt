@@ -1,5 +1,0 @@
-use borrow.Author.Rules.{rules}
-use Rattle.state_slots.proofs.given.Goals as goal
-
-pub returns : goal.returns
-returns c = rw c.if-is.false c.pack.ensures
