@@ -15,6 +15,8 @@ pub struct Case<'a> {
     pub head: Head,
     pub table: &'a [u32],
     pub samples: &'a [u32],
+    // Whether the input had all its samples; if not, it is the last.
+    pub whole: bool,
 }
 
 // Words of the input, until the slice is full, and how many there were; the others are then 0. Of a slice over 16,400 words nothing is read.
@@ -104,23 +106,16 @@ fn record(samples: &mut [u32], seed: u32) {
     }
 }
 
-// The samples of a recording: of the input, or if there is a seed those that look random; None if the slice has not room for so many. Where the input
-// ends among them the others are 0: the case is run all the same, and is the last.
-fn samples<'a, R: Read>(
-    reader: &mut R,
-    all: &'a mut [u32],
-    head: &Head,
-) -> io::Result<Option<&'a [u32]>> {
-    let Some(samples) = all.get_mut(..head.samples) else {
-        return Ok(None);
-    };
-    match head.seed {
-        Some(seed) => record(samples, seed),
-        None => {
-            words(reader, samples)?;
+// The samples of a recording: of the input, or if there is a seed those that look random; whether there were so many. Where the input ends among
+// them the others are 0: the case is run all the same, and is the last.
+fn samples<R: Read>(reader: &mut R, samples: &mut [u32], seed: Option<u32>) -> io::Result<bool> {
+    match seed {
+        Some(seed) => {
+            record(samples, seed);
+            Ok(true)
         }
+        None => Ok(words(reader, samples)? == samples.len()),
     }
-    Ok(Some(samples))
 }
 
 // The next case, in room that is lent for its table and its samples; None if there is no more, or not room enough.
@@ -137,12 +132,14 @@ pub fn next_case<'a, R: Read>(
     let Some(table) = table(reader, table_room, &head)? else {
         return Ok(None);
     };
-    let Some(samples) = samples(reader, samples_room, &head)? else {
+    let Some(recorded) = samples_room.get_mut(..head.samples) else {
         return Ok(None);
     };
+    let whole = samples(reader, recorded, head.seed)?;
     Ok(Some(Case {
         head,
         table,
-        samples,
+        samples: recorded,
+        whole,
     }))
 }

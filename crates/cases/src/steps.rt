@@ -28,7 +28,7 @@ fn call<W: Write>(out: &mut W, case: &Case<'_>) -> io::Result<()> {
     show::end(out)
 }
 
-// The next case; whether there was one.
+// The next case; whether there can be more.
 pub fn one<R: Read, W: Write>(reader: &mut R, out: &mut W) -> io::Result<bool> {
     let mut table = [0u32; 16400];
     let mut samples = [0u32; 4100];
@@ -36,5 +36,5 @@ pub fn one<R: Read, W: Write>(reader: &mut R, out: &mut W) -> io::Result<bool> {
         return Ok(false);
     };
     call(out, &case)?;
-    Ok(true)
+    Ok(case.whole)
 }

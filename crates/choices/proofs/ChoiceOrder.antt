@@ -1,5 +1,5 @@
 -- The order of the choices: fewer chosen words first, equal counts by higher number.
-use Prim.Native.Nat.{ℕ, zero, suc, ◌+◌, ◌*◌, ◌-◌, ◌^◌, ◌≤◌, ◌<◌}
+use Prim.Native.Nat.{ℕ, zero, suc, ◌+◌, ◌-◌, ◌^◌, ◌≤◌, ◌<◌}
 use native.Mathlib.Omega.{arith}
 use mathlib.Core.Path.{◌≡◌, refl, sym, ap, ap₂, subst, ◌∙◌}
 use mathlib.Core.Bool.{Bool, true, false, cond}
@@ -22,7 +22,7 @@ joined-append : (t : List ℕ) (cs ds : List ℕ) (χ : Formula) → joined t (c
 joined-append t cs ds χ = rw (map-append (folded_part t) cs ds) (foldl-append (fold_binary disj) χ (map (folded_part t) cs) (map (folded_part t) ds))
 
 -- the parts of more choices are joined after those of the first
-pub grown-append : (t : List ℕ) (cs ds : List ℕ) {s m e : State} {a b : Sum} {r : Option Sum} → Grown (joined t cs) s m a (Some b) → Grown (joined t ds) m e b r → Grown (joined t (cs ++ ds)) s e a r
+pub grown-append : (t : List ℕ) (cs ds : List ℕ) {s m e : State} {a b r : Option Sum} → Grown (joined t cs) s m a b → Grown (joined t ds) m e b r → Grown (joined t (cs ++ ds)) s e a r
 grown-append t cs ds p q = record {
   numbered = q.numbered;
   small = q.small;
@@ -88,28 +88,28 @@ row_done k limit n l =
     ap (λ (cs : List ℕ). fewer k n ++ chosen_in cs n) all_of ∙ fewer_more k n ∙ ap (fewer k) one
 
 -- none at first
-pub none_grown : (t : List ℕ) (k : ℕ) {s : State} → Numbered s → Grown (joined t (fewer k 0)) s s None (Some None)
+pub none_grown : (t : List ℕ) (k : ℕ) {s : State} → Numbered s → Grown (joined t (fewer k 0)) s s (Some None) (Some None)
 none_grown t k h = grown_same (joined t (fewer k 0)) h tt (λ χ. refl)
 
 module _ (t : List ℕ) (k limit n : ℕ) {s e : State} {r : Option Sum} where
-  pub row_begun : Grown (joined t (fewer k n)) s e None r → Grown (joined t (so_far k limit n limit)) s e None r
-  row_begun g = subst (λ (cs : List ℕ). Grown (joined t cs) s e None r) (row_start k limit n) g
+  pub row_begun : Grown (joined t (fewer k n)) s e (Some None) r → Grown (joined t (so_far k limit n limit)) s e (Some None) r
+  row_begun g = subst (λ (cs : List ℕ). Grown (joined t cs) s e (Some None) r) (row_start k limit n) g
 
   -- one choice more
-  pub next_grown : (c : ℕ) {m : State} {b : Sum} → 0 < c → c ≤ limit → Grown (joined t (so_far k limit n c)) s m None (Some b)
-      → Grown (joined t (chosen_in ((c - 1) ∷ []) n)) m e b r → Grown (joined t (so_far k limit n (c - 1))) s e None r
+  pub next_grown : (c : ℕ) {m : State} {b : Option Sum} → 0 < c → c ≤ limit → Grown (joined t (so_far k limit n c)) s m (Some None) b
+      → Grown (joined t (chosen_in ((c - 1) ∷ []) n)) m e b r → Grown (joined t (so_far k limit n (c - 1))) s e (Some None) r
   next_grown c some low p q =
       let up : c ≡ suc (c - 1) = omega (arith, some) in
       let more : so_far k limit n c ++ chosen_in ((c - 1) ∷ []) n ≡ so_far k limit n (c - 1) =
       append_assoc (fewer k n) (from_top limit c n) (chosen_in ((c - 1) ∷ []) n) ∙ ap (λ (cs : List ℕ). fewer k n ++ cs)
       (ap (λ (d : ℕ). from_top limit d n ++ chosen_in ((c - 1) ∷ []) n) up ∙ one_lower limit n (c - 1) (omega (arith, some, low))) in
-      subst (λ (cs : List ℕ). Grown (joined t cs) s e None r) more (grown-append t (so_far k limit n c) (chosen_in ((c - 1) ∷ []) n) p q)
+      subst (λ (cs : List ℕ). Grown (joined t cs) s e (Some None) r) more (grown-append t (so_far k limit n c) (chosen_in ((c - 1) ∷ []) n) p q)
 
-  pub row-grown : limit ≡ 2 ^ k → Grown (joined t (so_far k limit n 0)) s e None r → Grown (joined t (fewer k (n + 1))) s e None r
-  row-grown l g = subst (λ (cs : List ℕ). Grown (joined t cs) s e None r) (row_done k limit n l) g
+  pub row-grown : limit ≡ 2 ^ k → Grown (joined t (so_far k limit n 0)) s e (Some None) r → Grown (joined t (fewer k (n + 1))) s e (Some None) r
+  row-grown l g = subst (λ (cs : List ℕ). Grown (joined t cs) s e (Some None) r) (row_done k limit n l) g
 
 -- all of them, joined to nothing
-pub all_summed : (t : List ℕ) (k n : ℕ) {s e : State} {r : Option Sum} → n ≡ suc k → Grown (joined t (fewer k n)) s e None r → SummedOr s e (joined t (fewer k (suc k)) (const false)) r
+pub all_summed : (t : List ℕ) (k n : ℕ) {s e : State} {r : Option Sum} → n ≡ suc k → Grown (joined t (fewer k n)) s e (Some None) r → SummedOr s e (joined t (fewer k (suc k)) (const false)) r
 all_summed t k n {s} {e} {r} q g = subst (λ (i : ℕ). SummedOr s e (joined t (fewer k i) (const false)) r) q (g.sums s (const false) (refl, refl))
 
 -- the choices that are left: those of the count below c, and those of more chosen words
@@ -176,7 +176,7 @@ module _ (t : List ℕ) (k : ℕ) (untrue : (c : ℕ) → c < 2 ^ k → Untrue t
   unfit_rows (n ∷ ns) χ p =
       rw (joined-append t (choices_of k n) (join_all (map (choices_of k) ns)) χ) (unfit_rows ns (joined t (choices_of k n) χ) (unfit_row n χ p))
 
-  pub full_summed : (limit n c : ℕ) → limit ≡ 2 ^ k → c ≤ limit → n ≤ k → Grown (joined t (so_far k limit n c)) s e None None
+  pub full_summed : (limit n c : ℕ) → limit ≡ 2 ^ k → c ≤ limit → n ≤ k → Grown (joined t (so_far k limit n c)) s e (Some None) None
       → SummedOr s e (joined t (fewer k (suc k)) (const false)) None
   full_summed limit n c l h m g =
       let now : Formula = joined t (so_far k limit n c) (const false) in

@@ -37,7 +37,17 @@ pub fn all(
     for ones in 0..=bits {
         for choice in (0..limit).rev() {
             sum = with_part(
-                table, positions, choice, ones, draft, folded, numbers, stack, out, index, sum,
+                table,
+                positions,
+                choice,
+                ones,
+                draft,
+                folded,
+                numbers,
+                stack,
+                out,
+                index,
+                Some(sum),
             )?;
         }
     }

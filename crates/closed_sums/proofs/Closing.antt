@@ -1,5 +1,5 @@
 -- What a sum of all parts comes to.
-use Prim.Native.Nat.{ℕ, ◌<◌}
+use Prim.Native.Nat.{ℕ}
 use mathlib.Core.Path.{◌≡◌, subst}
 use mathlib.Core.Bool.{false}
 use Rattle.std.specs.Prelude.{Option, Some, None}

@@ -7,7 +7,9 @@ ghost use Rattle.agreement.specs.Comparing as comparing;
 
 use moments::{alike, driven_bits, following, window};
 
-// The first moment at which two recordings that drive as many letters differ.
+// The first moment at which two recordings that drive as many letters differ. Never inlined: in a caller that holds more numbers the loop keeps one of them in
+// memory, and where the code then happens to lie it takes up to twice as long.
+#[inline(never)]
 pub fn first_difference(
     samples: &[u32],
     start: usize,

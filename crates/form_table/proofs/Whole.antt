@@ -21,7 +21,7 @@ use Rattle.parts.specs.Parts.{folded_part, Ready}
 use Rattle.true_parts.proofs.Looks.{ready_again}
 use Rattle.std.specs.Prelude.{Option, Some, None}
 use Rattle.table.specs.Answers.{OrNone}
-use Rattle.sums.specs.Summed.{Summed}
+use Rattle.sums.specs.Summed.{Sum, SummedOr}
 use Rattle.part_sums.specs.Joining.{joined, Joinable}
 use Rattle.form_table.specs.Formable.{Formable}
 
@@ -83,9 +83,10 @@ module _ (t : List ℕ) where
   placed_sum q s e r p = subst (λ (φ : Formula). OrNone (λ n. Placing s e (build (written s) φ) n) r) (fold-form q) p
 
 -- a sum leaves a table whose words are numbered
-pub summed-numbered : (s e : State) (χ : Formula) (r : Option ℕ) → Numbered s → Summed s e χ r → Numbered e
-summed-numbered s e χ None h p = subst Numbered (sym p.1) h
-summed-numbered s e χ (Some n) h p = p.2.numbered
+pub summed-numbered : (s e : State) (χ : Formula) (r : Option Sum) → Numbered s → SummedOr s e χ r → Numbered e
+summed-numbered s e χ None h p = p.1.numbered
+summed-numbered s e χ (Some None) h p = subst Numbered (sym p.1) h
+summed-numbered s e χ (Some (Some n)) h p = p.2.numbered
 
 -- what the look and the sum are asked with
 module _ {t positions : List ℕ} {bits : ℕ} {d folded numbers stack : List ℕ} {s : State} (q : Formable t positions bits d folded numbers stack s) where

@@ -43,6 +43,6 @@ pub fn form(
     }
     let sum = choices::all(
         table, positions, bits, draft, folded, numbers, stack, out, index,
-    )?;
+    );
     closed_sums::close(sum, out, index)
 }

@@ -16,9 +16,9 @@ use Rattle.headed_answers.proofs.Lent.{left_finishable, left_given}
 module _ (u result part : List ℕ) (accepts : length u ≤ 16383 → checked true 16383 u ≡ Ok tt) (some : length result ≡ 0 → ⊥)
     (same : length part ≡ length (take (length result - 1) (body result))) where
   pub option_finishable : (r : Option ℕ) → OrNone (λ n. Written u (take (length result - 1) (body result)) part n) r
-      → OrNone (Finishable (put_mid 1 (length result - 1) result part)) r
+      → Finishable (put_mid 1 (length result - 1) result part) (or_zero r)
   option_finishable None q = left_finishable u result accepts some same q
-  option_finishable (Some n) q = (q.0, left_finishable u result accepts some same q.1)
+  option_finishable (Some n) q = left_finishable u result accepts some same q.1
 
   pub option_given : (r : Option ℕ) → OrNone (λ n. Written u (take (length result - 1) (body result)) part n) r
       → {e : List ℕ} {a : Answer} → Finished (put_mid 1 (length result - 1) result part) (or_zero r) e a → Given (headed u) result e a

@@ -1,9 +1,11 @@
 // A rule as text, word by word: what is begun of it stands on a stack.
 #![tactic(auto)]
 
+mod pieces;
 mod stack;
 mod writing;
 
+use pieces::Pieces;
 use stack::{Stack, Written};
 use std::io;
 use std::io::Write;
@@ -20,12 +22,14 @@ fn word_of(table: &[u32], n: usize) -> u32 {
 pub fn write<W: Write>(out: &mut W, table: &[u32], bytes: u64) -> io::Result<()> {
     let mut stack = Stack::new();
     stack.push(table.len(), Written::Nothing);
+    let mut pieces = Pieces::new();
     // By a count and not `while let`: no measure but the text says that the turns end. Each writes a byte at least.
     for _ in 0..bytes {
         let Some(entry) = stack.pop() else {
             break;
         };
-        writing::turn(out, &mut stack, entry, word_of(table, entry.word))?;
+        pieces.make_room(out)?;
+        writing::turn(&mut pieces, &mut stack, entry, word_of(table, entry.word));
     }
-    Ok(())
+    pieces.hand_on(out)
 }

@@ -1,59 +1,65 @@
 // What is written of a word at its turns: what stands before its first operand, between its operands and after them.
+use crate::pieces::Pieces;
 use crate::stack::{Entry, Stack, Written};
-use std::io;
-use std::io::Write;
 
 // What comes next of the word w, whose entry was on top; what is left of it goes back on the stack.
-pub fn turn<W: Write>(out: &mut W, stack: &mut Stack, entry: Entry, w: u32) -> io::Result<()> {
+pub fn turn(out: &mut Pieces, stack: &mut Stack, entry: Entry, w: u32) {
     match entry.written {
         Written::Nothing => start(out, stack, entry.word, w),
         Written::Left => {
             stack.push(entry.word, Written::Both);
             stack.push(word::right(w), Written::Nothing);
-            out.write_all(operator(w))
+            operator(out, w)
         }
-        Written::Both => out.write_all(b")"),
+        Written::Both => out.add(b")"),
     }
 }
 
-fn start<W: Write>(out: &mut W, stack: &mut Stack, n: usize, w: u32) -> io::Result<()> {
+fn start(out: &mut Pieces, stack: &mut Stack, n: usize, w: u32) {
     let right = word::right(w);
     match word::kind(w) {
-        0 | 1 => out.write_all(b"false"),
-        2 => out.write_all(b"true"),
-        3 => write!(out, "p{right}"),
-        4 => write!(out, "!p{right}"),
+        0 | 1 => out.add(b"false"),
+        2 => out.add(b"true"),
+        3 if right < 10 => out.add(&[b'p', digit(right)]),
+        3 => out.add(&[b'p', digit(right / 10), digit(right)]),
+        4 if right < 10 => out.add(&[b'!', b'p', digit(right)]),
+        4 => out.add(&[b'!', b'p', digit(right / 10), digit(right)]),
         7 | 12 | 13 | 14 => {
             stack.push(right, Written::Nothing);
-            out.write_all(prefix(w))
+            prefix(out, w)
         }
         _ => {
             stack.push(n, Written::Left);
             stack.push(word::left(w), Written::Nothing);
-            out.write_all(b"(")
+            out.add(b"(")
         }
     }
 }
 
+// The last digit of a number: a letter has two at most. By hand, since `write!` takes nearly as long as all the rest of a text.
+fn digit(n: usize) -> u8 {
+    b'0' + (n % 10) as u8
+}
+
 // The operator before one operand.
-fn prefix(w: u32) -> &'static [u8] {
+fn prefix(out: &mut Pieces, w: u32) {
     match word::kind(w) {
-        7 => b"X",
-        12 => b"!",
-        13 => b"F",
-        _ => b"G",
+        7 => out.add(b"X"),
+        12 => out.add(b"!"),
+        13 => out.add(b"F"),
+        _ => out.add(b"G"),
     }
 }
 
 // The operator between two operands.
-fn operator(w: u32) -> &'static [u8] {
+fn operator(out: &mut Pieces, w: u32) {
     match word::kind(w) {
-        5 => b" & ",
-        6 => b" | ",
-        8 => b" U ",
-        9 => b" W ",
-        10 => b" R ",
-        15 => b" -> ",
-        _ => b" M ",
+        5 => out.add(b" & "),
+        6 => out.add(b" | "),
+        8 => out.add(b" U "),
+        9 => out.add(b" W "),
+        10 => out.add(b" R "),
+        15 => out.add(b" -> "),
+        _ => out.add(b" M "),
     }
 }

@@ -8,7 +8,7 @@ use Rattle.transforms.specs.Folding.{Fold, stands, by_constant, on_left, on_righ
 use Rattle.table.specs.Node.{pack, binary_kind}
 use Rattle.table.specs.Numbering.{put, build}
 use Rattle.numbering.proofs.Building.{Grows, grows_trans, put-grows, build-grows, build-bin}
-use Rattle.placing.specs.State.{State, written, Placing, Putting}
+use Rattle.placing.specs.State.{State, written, Numbered, Placing, Putting}
 use Rattle.placing.proofs.Placing.{placing-written, placing-answer, placing-full, placing-grows, placing-reached, placing_on, build-positive}
 use Rattle.std.specs.Prelude.{Option, Some, None}
 use Rattle.table.specs.Answers.{OrNone, or_zero}
@@ -74,7 +74,10 @@ at_small (Some r) h = h
 
 -- a formula that is no constant, joined to each sum
 module _ (φ : Formula) (st : Standing φ) {s : State} where
-  pub join-nothing : {e : State} (r : Option ℕ) → OrNone (λ n. Placing s e (build (written s) φ) n) r → Grown (λ χ. fold_binary disj χ φ) s e None (at_of r)
+  pub join-full : Numbered s → Grown (λ χ. fold_binary disj χ φ) s s None None
+  join-full h = record { numbered = h; small = tt; sums = λ s₀ χ p. rw (or_stands χ φ p.0 st) (tt, placing_left_full χ φ p.1 refl) }
+
+  pub join-nothing : {e : State} (r : Option ℕ) → OrNone (λ n. Placing s e (build (written s) φ) n) r → Grown (λ χ. fold_binary disj χ φ) s e (Some None) (at_of r)
   join-nothing {e} r q =
       let k = of_or (λ n. Placing s e (build (written s) φ) n) r q in
       record {
@@ -84,7 +87,7 @@ module _ (φ : Formula) (st : Standing φ) {s : State} where
       }
 
   -- no room for the formula
-  pub join_no_room : (a : Sum) {m : State} → Placing s m (build (written s) φ) 0 → Grown (λ χ. fold_binary disj χ φ) s m a None
+  pub join_no_room : (a : Sum) {m : State} → Placing s m (build (written s) φ) 0 → Grown (λ χ. fold_binary disj χ φ) s m (Some a) None
   join_no_room None q = join-nothing None q
   join_no_room (Some n) q = record { numbered = q.numbered; small = tt; sums = λ s₀ χ p. rw (or_stands χ φ p.0 st) (tt, placing_right_full χ φ p.2 p.1 q refl) }
 
@@ -94,7 +97,7 @@ module _ (φ : Formula) (st : Standing φ) {s : State} where
     both s₀ e w χ p z None k = placing_both χ φ p.2 p.1 q g (rw z at k)
     both s₀ e w χ p z (Some i) k = (k.0, placing_both χ φ p.2 p.1 q g (rw z at k.1))
 
-    pub join_at : {e : State} {w : ℕ} (r : Option ℕ) → w ≡ pack (binary_kind disj) n b → OrNone (λ i. Putting m e (put (written m) w) i) r → Grown (λ χ. fold_binary disj χ φ) s e (Some n) (at_of r)
+    pub join_at : {e : State} {w : ℕ} (r : Option ℕ) → w ≡ pack (binary_kind disj) n b → OrNone (λ i. Putting m e (put (written m) w) i) r → Grown (λ χ. fold_binary disj χ φ) s e (Some (Some n)) (at_of r)
     join_at {e} {w} r z k =
         let l = of_or (λ i. Putting m e (put (written m) w) i) r k in
         record {
@@ -104,5 +107,5 @@ module _ (φ : Formula) (st : Standing φ) {s : State} where
         }
 
 -- the same sum under another name
-pub grown_as : {g : Formula → Formula} {s e : State} {a b : Sum} {r : Option Sum} → a ≡ b → Grown g s e b r → Grown g s e a r
-grown_as {g} {s} {e} {r = r} x h = subst (λ (a : Sum). Grown g s e a r) (sym x) h
+pub grown_as : {g : Formula → Formula} {s e : State} {a b r : Option Sum} → a ≡ b → Grown g s e b r → Grown g s e a r
+grown_as {g} {s} {e} {r = r} x h = subst (λ (a : Option Sum). Grown g s e a r) (sym x) h

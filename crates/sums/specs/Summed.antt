@@ -44,7 +44,7 @@ SummedOr s e χ None = Unfit s e χ
 SummedOr s e χ (Some a) = Summed s e χ a
 
 -- where a sum stood for χ up to s, the sum r stands for g χ up to e
-pub record Grown (g : Formula → Formula) (s e : State) (a : Sum) (r : Option Sum) : Type 0 where
+pub record Grown (g : Formula → Formula) (s e : State) (a r : Option Sum) : Type 0 where
   pub numbered : Numbered e
   pub small : SmallOr r
-  pub sums : (s₀ : State) (χ : Formula) → Summed s₀ s χ a → SummedOr s₀ e (g χ) r
+  pub sums : (s₀ : State) (χ : Formula) → SummedOr s₀ s χ a → SummedOr s₀ e (g χ) r

@@ -1,8 +1,7 @@
 use Rattle.std.proofs.Common.{◌≡◌, ◌+◌, ◌-◌, arith}
-use Rattle.transforms.specs.NormalForm.{choices_of, choices}
+use Rattle.transforms.specs.NormalForm.{choices}
 use Rattle.true_parts.proofs.Looks.{shifted}
-use Rattle.part_sums.proofs.Parts.{joinable_again}
-use Rattle.choices.proofs.ChoiceOrder.{none_grown, row_begun, next_grown, row-grown, all_summed, full_summed}
+use Rattle.choices.proofs.ChoiceOrder.{none_grown, next_grown, row-grown, all_summed, full_summed}
 use Rattle.choices.proofs.all.Goals as goal
 
 pub loop-ones-init : goal.loop-ones-init

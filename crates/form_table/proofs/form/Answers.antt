@@ -1,4 +1,4 @@
-use Rattle.std.proofs.Common.{false, None}
+use Rattle.std.proofs.Common.{false}
 use Rattle.logic.specs.Formula.{const}
 use Rattle.transforms.specs.NormalForm.{choices}
 use Rattle.part_sums.specs.Joining.{joined}
@@ -15,18 +15,15 @@ pub returns-then-any : goal.returns-then-any
 returns-then-any c =
     placed-true c.args.table.now (form-true c.args.table.now c.requires.bits_are (c.any.ensures.looked.some c.if-any.true)) _ _ _ c.pack.ensures _ c.put.ensures
 
-pub all-requires : goal.all-requires
-all-requires c = record {
+pub all-sum-requires : goal.all-sum-requires
+all-sum-requires c = record {
   joinable = joinable_first c.requires c.fill_words.auto.draft c.fill_words.ensures c.any.auto.draft c.any.auto.folded c.any.ensures.laid;
   by_index = (c.any.ensures.looked.none c.if-any.false, c.requires.few);
 }
 
-pub returns-in_err-sum : goal.returns-in_err-sum
-returns-in_err-sum c = rw c.from_residual.ensures (placed_sum c.args.table.now c.requires.bits_are _ _ None c.in_err-sum.ensures.1)
-
 pub close-requires : goal.close-requires
-close-requires c = summed-numbered _ _ _ c.in_ok-sum.sum c.requires.numbered c.in_ok-sum.ensures
+close-requires c = summed-numbered _ _ _ c.all-sum.result c.requires.numbered c.all-sum.ensures
 
 pub returns : goal.returns
 returns c =
-    placed_sum c.args.table.now c.requires.bits_are _ _ _ (c.close.ensures _ (joined c.args.table.now (choices c.args.bits) (const false)) c.in_ok-sum.ensures)
+    placed_sum c.args.table.now c.requires.bits_are _ _ _ (c.close.ensures _ (joined c.args.table.now (choices c.args.bits) (const false)) c.all-sum.ensures)

@@ -1,8 +1,12 @@
 use Rattle.std.proofs.Common.{◌≤◌, ◌^◌, length, sym, ◌∙◌, arith}
 use Rattle.drafts.proofs.Drafts.{drafted_within}
 use Rattle.parts.specs.Parts.{folded_part}
-use Rattle.part_sums.proofs.Parts.{part_joined, part_false, root_false, root_standing}
+use Rattle.part_sums.proofs.Parts.{part_joined, part_false, part_full, root_false, root_standing}
 use Rattle.part_sums.proofs.with_part.Goals as goal
+
+pub returns-in_err-sum-clause-grown : goal.returns-in_err-sum-clause-grown
+returns-in_err-sum-clause-grown c =
+    rw c.from_residual.ensures (part_full _ _ _ c.if-choice-ones.false c.requires.joinable.numbered c.requires.untrue.0 c.in_err-sum.was)
 
 pub bounds-folded-root : goal.bounds-folded-root
 bounds-folded-root c = drafted_within c.part-root.new.folded (folded_part c.args.table.now c.args.choice) c.part-root.result c.part-root.ensures.drafted
@@ -32,7 +36,7 @@ returns-in_err-joined c =
     let drafted = c.part-root.ensures.drafted in
     let no_room = c.if-kind-eq-FALSE.false in
     record {
-      grown = rw c.from_residual.ensures (part_joined c.args.table.now c.args.choice _ c.if-choice-ones.false
+      grown = rw c.from_residual-in_err-joined.ensures (part_joined c.args.table.now c.args.choice _ c.if-choice-ones.false
           (c.in_err-joined.ensures (folded_part c.args.table.now c.args.choice) drafted
           (root_standing c.args.table.now c.part-root.new.folded c.args.choice c.part-root.result drafted few c.requires.untrue.0 (λ e. no_room (c.kind.ensures ∙ e)))));
       laid = c.part-root.ensures.laid;

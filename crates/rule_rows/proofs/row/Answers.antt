@@ -80,6 +80,6 @@ returns-in-Ok c =
     record {
       result_value = last_row_lem _ _ _ _ _ _ still-fillable (words_before t) c.row_words-words.ensures _ (accepted-facts _ _ _ _ _ told).few_driven _ rows ∙ accepted_part _ _ _ _ told;
       ref_ptr_value = accepted_at _ _ _ told c.row_words-words.ensures;
-      number_after = c.reply.ensures.value ∙ ap outcome_number c.fill-outcome.ensures.value;
+      number_after = c.reply.ensures.value ∙ ap outcome_number (c.fill-outcome.ensures.value);
       place_after = c.reply.ensures.place_after ∙ ap outcome_place c.fill-outcome.ensures.value;
     }
