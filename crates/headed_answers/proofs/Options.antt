@@ -13,12 +13,17 @@ use Rattle.placing.specs.Written.{Written}
 use Rattle.headed_answers.specs.Finished.{Finishable, Finished, Given}
 use Rattle.headed_answers.proofs.Lent.{left_finishable, left_given}
 
+-- what is asked for a number or none, of the number that stands for both
+pub or_zero_finishable : (s : List ℕ) (r : Option ℕ) → OrNone (Finishable s) r → Finishable s (or_zero r)
+or_zero_finishable s None q = q
+or_zero_finishable s (Some n) q = q.1
+
 module _ (u result part : List ℕ) (accepts : length u ≤ 16383 → checked true 16383 u ≡ Ok tt) (some : length result ≡ 0 → ⊥)
     (same : length part ≡ length (take (length result - 1) (body result))) where
   pub option_finishable : (r : Option ℕ) → OrNone (λ n. Written u (take (length result - 1) (body result)) part n) r
-      → Finishable (put_mid 1 (length result - 1) result part) (or_zero r)
+      → OrNone (Finishable (put_mid 1 (length result - 1) result part)) r
   option_finishable None q = left_finishable u result accepts some same q
-  option_finishable (Some n) q = left_finishable u result accepts some same q.1
+  option_finishable (Some n) q = (q.0, left_finishable u result accepts some same q.1)
 
   pub option_given : (r : Option ℕ) → OrNone (λ n. Written u (take (length result - 1) (body result)) part n) r
       → {e : List ℕ} {a : Answer} → Finished (put_mid 1 (length result - 1) result part) (or_zero r) e a → Given (headed u) result e a

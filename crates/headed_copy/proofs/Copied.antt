@@ -42,8 +42,8 @@ module _ {words : List ℕ} (q : Headable words) (result : List ℕ) {part : Lis
   same : length part ≡ length (take k (body result))
   same = ap length e ∙ sym front
 
-  pub copied-finishable : Finishable (put_mid 1 k result part) (length words)
-  copied-finishable = lent-finishable words result (omega arith) (length words) (omega arith) lent same written (λ z. q)
+  pub copied-finishable : (0 < length words) × Finishable (put_mid 1 k result part) (length words)
+  copied-finishable = (some q, lent-finishable words result (omega arith) (length words) (omega arith) lent same written (λ z. q))
 
   pub copied_given : {m : List ℕ} {r : Answer} → Finished (put_mid 1 k result part) (length words) m r → Given (headed words) result m r
   copied_given = lent_given words result (omega arith) (length words) (omega arith) lent same written

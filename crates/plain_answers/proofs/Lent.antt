@@ -35,9 +35,9 @@ module _ {words : List ℕ} (q : Formable words) (result part : List ℕ) {k : �
   given n = lent_given (plain_table words) result (omega (arith, some)) (2 * length words + 2) (plain-length q.limit words q.accepted) lent same
 
   pub form-finishable : (r : Option ℕ) → OrNone (λ n. Written (plain_table words) (take (k - 1) (body result)) part n) r
-      → Finishable (put_mid 1 (k - 1) result part) (or_zero r)
+      → OrNone (Finishable (put_mid 1 (k - 1) result part)) r
   form-finishable None w = finishable 0 w
-  form-finishable (Some n) w = finishable n w.1
+  form-finishable (Some n) w = (w.0, finishable n w.1)
 
   pub form_given : (r : Option ℕ) → OrNone (λ n. Written (plain_table words) (take (k - 1) (body result)) part n) r
       → {e : List ℕ} {a : Answer} → Finished (put_mid 1 (k - 1) result part) (or_zero r) e a → Given (headed (plain_table words)) result e a

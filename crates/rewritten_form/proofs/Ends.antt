@@ -99,9 +99,9 @@ module _ {words : List ℕ} (q : Accepted words) (result : List ℕ) {part : Lis
   given_part = lent_given (normal_table words) result (omega (arith, some)) most (omega arith) lent same w
 
 module _ {words : List ℕ} (q : Accepted words) (result part : List ℕ) (some : length result ≡ 0 → ⊥) (same : length part ≡ length (take (length result - 1) (body result))) where
-  pub form-finishable : (n : Option ℕ) → OrNone (λ m. Written (normal_table words) (take (length result - 1) (body result)) part m) n → Finishable (put_mid 1 (length result - 1) result part) (or_zero n)
+  pub form-finishable : (n : Option ℕ) → OrNone (λ m. Written (normal_table words) (take (length result - 1) (body result)) part m) n → OrNone (Finishable (put_mid 1 (length result - 1) result part)) n
   form-finishable None w = finishable q result some same w
-  form-finishable (Some n) w = finishable q result some same w.1
+  form-finishable (Some n) w = (w.0, finishable q result some same w.1)
 
   pub form_given : (n : Option ℕ) → OrNone (λ m. Written (normal_table words) (take (length result - 1) (body result)) part m) n → (e : List ℕ) (r : Answer)
       → Finished (put_mid 1 (length result - 1) result part) (or_zero n) e r → Given (headed (normal_table words)) result e r

@@ -28,8 +28,13 @@ pub fn write<W: Write>(out: &mut W, table: &[u32], bytes: u64) -> io::Result<()>
         let Some(entry) = stack.pop() else {
             break;
         };
-        pieces.make_room(out)?;
+        if !pieces.have_room() {
+            pieces.hand_on(out)?;
+        }
         writing::turn(&mut pieces, &mut stack, entry, word_of(table, entry.word));
     }
     pieces.hand_on(out)
 }
+
+#[cfg(test)]
+mod tests;

@@ -2,20 +2,20 @@
 use std::io;
 use std::io::Write;
 
-// The longest piece.
-const MOST: usize = 5;
+// The longest piece, a negated letter of five digits. In the text of an accepted table none has over five bytes.
+const MOST: usize = 7;
 
-// Bytes and how many of them are used: there is no heap for a list.
+// Bytes and how many of them are used: there is no heap for a list. Two more than 8,192, for a letter that no accepted table has.
 #[derive(Drop)]
 pub struct Pieces {
-    bytes: [u8; 8192],
+    bytes: [u8; 8194],
     used: usize,
 }
 
 impl Pieces {
     pub fn new() -> Self {
         Pieces {
-            bytes: [0; 8192],
+            bytes: [0; 8194],
             used: 0,
         }
     }
@@ -30,12 +30,9 @@ impl Pieces {
         }
     }
 
-    // Makes room for a piece.
-    pub fn make_room<W: Write>(&mut self, out: &mut W) -> io::Result<()> {
-        if self.bytes.len() - MOST < self.used {
-            return self.hand_on(out);
-        }
-        Ok(())
+    // Whether there is room for a piece.
+    pub fn have_room(&self) -> bool {
+        self.used <= self.bytes.len() - MOST
     }
 
     // Writes what was gathered.

@@ -21,9 +21,11 @@ fn start(out: &mut Pieces, stack: &mut Stack, n: usize, w: u32) {
         0 | 1 => out.add(b"false"),
         2 => out.add(b"true"),
         3 if right < 10 => out.add(&[b'p', digit(right)]),
-        3 => out.add(&[b'p', digit(right / 10), digit(right)]),
+        3 if right < 100 => out.add(&[b'p', digit(right / 10), digit(right)]),
+        3 => long_letter(out, b"p", right),
         4 if right < 10 => out.add(&[b'!', b'p', digit(right)]),
-        4 => out.add(&[b'!', b'p', digit(right / 10), digit(right)]),
+        4 if right < 100 => out.add(&[b'!', b'p', digit(right / 10), digit(right)]),
+        4 => long_letter(out, b"!p", right),
         7 | 12 | 13 | 14 => {
             stack.push(right, Written::Nothing);
             prefix(out, w)
@@ -36,7 +38,16 @@ fn start(out: &mut Pieces, stack: &mut Stack, n: usize, w: u32) {
     }
 }
 
-// The last digit of a number: a letter has two at most. By hand, since `write!` takes nearly as long as all the rest of a text.
+// A letter of three to five digits, which no accepted table has. Not inlined, since it is rare.
+#[inline(never)]
+fn long_letter(out: &mut Pieces, sign: &[u8], n: usize) {
+    out.add(sign);
+    let digits = [n / 10000, n / 1000, n / 100, n / 10, n].map(digit);
+    let leading = digits.iter().take_while(|d| **d == b'0').count();
+    out.add(&digits[leading..]);
+}
+
+// The last digit of a number. By hand, since `write!` takes nearly as long as all the rest of a text.
 fn digit(n: usize) -> u8 {
     b'0' + (n % 10) as u8
 }

@@ -2,7 +2,7 @@
 use Rattle.std.proofs.Common.{◌≡◌, length, arith}
 use Rattle.std.proofs.lemmas.Bool.Decides.{nat_tests}
 use Rattle.headed_answers.proofs.Ends.{given_empty}
-use Rattle.headed_answers.proofs.Options.{option_finishable, option_given}
+use Rattle.headed_answers.proofs.Options.{or_zero_finishable, option_finishable, option_given}
 use Rattle.table.specs.Steps.{after_table}
 use Rattle.after_laws.proofs.Promise.{after_accepted}
 use Rattle.after_answers.proofs.answer.Goals as goal
@@ -13,7 +13,8 @@ returns-then-is_empty c = given_empty _ c.args.res.now (grind (arith, nat_tests)
 pub finish-requires-2 : goal.finish-requires-2
 finish-requires-2 c =
     let some : length c.args.res.now ≡ 0 → ⊥ = λ z. grind (arith, nat_tests) in
-    option_finishable (after_table c.args.sample c.args.words.now) c.args.res.now _ (after_accepted c.args.sample c.args.words.now c.requires) some c.write-n.auto.res _ c.write-n.ensures
+    or_zero_finishable _ c.write-n.result
+    (option_finishable (after_table c.args.sample c.args.words.now) c.args.res.now _ (after_accepted c.args.sample c.args.words.now c.requires) some c.write-n.auto.res _ c.write-n.ensures)
 
 pub returns : goal.returns
 returns c =

@@ -13,7 +13,7 @@ returns-then-res-n c =
 
 pub finish-requires-2 : goal.finish-requires-2
 finish-requires-2 c =
-    copied-finishable c.requires c.args.res.now (omega (arith, c.if-res-n.false)) (omega arith) c.copy_from_slice.ensures.after
+    (copied-finishable c.requires c.args.res.now (omega (arith, c.if-res-n.false)) (omega arith) c.copy_from_slice.ensures.after).1
 
 pub returns : goal.returns
 returns c =

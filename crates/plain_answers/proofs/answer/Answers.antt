@@ -4,6 +4,7 @@ use Rattle.std.proofs.lemmas.Bool.Decides.{nat_tests}
 use Rattle.table.specs.Header.{body}
 use Rattle.table.proofs.Accepted.{accepted-well-formed}
 use Rattle.headed_answers.proofs.Ends.{given_empty}
+use Rattle.headed_answers.proofs.Options.{or_zero_finishable}
 use Rattle.plain_answers.proofs.Lent.{form-finishable, form_given}
 use Rattle.plain_answers.proofs.answer.Goals as goal
 
@@ -23,7 +24,8 @@ write-n-requires c =
 pub finish-requires-2 : goal.finish-requires-2
 finish-requires-2 c =
     let some : length c.args.res.now ≡ 0 → ⊥ = λ z. grind (arith, nat_tests) in
-    form-finishable c.requires c.args.res.now _ some c.min-lent.ensures c.write-n.auto.res _ c.write-n.ensures
+    or_zero_finishable _ c.write-n.result
+    (form-finishable c.requires c.args.res.now _ some c.min-lent.ensures c.write-n.auto.res _ c.write-n.ensures)
 
 pub returns : goal.returns
 returns c =

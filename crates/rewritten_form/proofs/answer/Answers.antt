@@ -1,6 +1,7 @@
 use Rattle.std.proofs.Common.{◌≡◌, length, arith}
 use Rattle.std.proofs.lemmas.Bool.Decides.{nat_tests}
 use Rattle.headed_answers.proofs.Ends.{given_empty}
+use Rattle.headed_answers.proofs.Options.{or_zero_finishable}
 use Rattle.rewritten_form.proofs.Ends.{form-finishable, form_given}
 use Rattle.rewritten_form.proofs.answer.Goals as goal
 
@@ -10,7 +11,8 @@ returns-then-is_empty c = given_empty _ c.args.res.now (grind (arith, nat_tests)
 pub finish-requires-2 : goal.finish-requires-2
 finish-requires-2 c =
     let some : length c.args.res.now ≡ 0 → ⊥ = λ z. grind (arith, nat_tests) in
-    form-finishable c.requires c.args.res.now _ some c.form-n.auto.res _ c.form-n.ensures
+    or_zero_finishable _ c.form-n.result
+    (form-finishable c.requires c.args.res.now _ some c.form-n.auto.res _ c.form-n.ensures)
 
 pub returns : goal.returns
 returns c =
